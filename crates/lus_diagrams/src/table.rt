@@ -1,6 +1,6 @@
 //! The table of a journal, whose columns are given entry by entry.
 
-ghost use Rattle.std.specs.Prelude.{◌≡◌, ◌++◌, ◌+◌, ◌∷◌, [], IfOk, List, OnOk, length, map};
+ghost use Rattle.std.specs.Prelude.{◌≡◌, ◌++◌, ◌+◌, ◌<◌, ◌^◌, ◌∷◌, [], IfOk, List, OnOk, length, map};
 ghost use Rattle.lus_diagrams.specs.Columns.{Column as PlainColumn, Noted, instants, marked, noted};
 ghost use Rattle.lus_diagrams.specs.ColumnView.{column_seen};
 ghost use Rattle.lus_diagrams.specs.Parts.{part_behind};
@@ -26,7 +26,7 @@ pub struct Column {
 pub struct Table {
     pub line: u64,
     pub instants: u64,
-    part: Part,
+    pub part: Part,
     lineage: Lineage,
 }
 
@@ -50,8 +50,7 @@ fn push_event(
     Ok(())
 }
 
-/// Appends those columns of instants behind so many that are in the part. The first has the number behind this one. More of them than a
-/// number counts have no room either.
+/// Appends those columns of instants behind so many that are in the part. The first has the number behind this one.
 fn push_instants(
     columns: &mut Vec<Column>,
     part: Part,
@@ -60,17 +59,19 @@ fn push_instants(
     count: u64,
     rows: Vec<Row>,
 ) -> Result<(), Memory>
+    requires places { behind + length rows.items < 2 ^ 64 }
+    requires numbers { count + length rows.items < 2 ^ 64 }
     ensures { OnOk result (map column_seen columns.new.items
         ≡ map column_seen columns.old.items ++ part_behind part behind (instants count rows.items)) }
 {
     let (mut place, mut number) = (behind, count);
     for cells in rows {
-        number = more(number, 1)?;
+        number += 1;
         let head = Head::Instant(number);
         if is_within(part, place, head) {
             columns.push(Column { head, line, cells })?;
         }
-        place = more(place, 1)?;
+        place += 1;
     }
     Ok(())
 }

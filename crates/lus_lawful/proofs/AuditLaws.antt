@@ -206,18 +206,23 @@ reports_more n (k ∷ js) j tail =
     ∙ sym (append_assoc here (reports m js []) (journal_report (m + sum_by line_count js) j tail))
     ∙ ap₂ (λ t l. (journal_report n k t ++ reports m js []) ++ journal_report l j tail) (sym (no_tail js)) place
 
--- none was read yet
-pub none_yet : (p : Program) (Gathered : List Journal → Type 0) (left : Option Bytes) (report : Text) → Gathered [] → report ≡ []
-    → AreLawful p Gathered [] left left 0 report
-none_yet p Gathered left report gathered none = record {
+-- none was read
+none_before : (p : Program) (Gathered : List Journal → Type 0) (tail : Text) (left : Option Bytes) (report : Text) → Gathered [] → IsTail [] tail
+    → report ≡ [] → AreLawful p Gathered tail left left 0 report
+none_before p Gathered tail left report gathered tailed none = record {
   journals = [];
   lawful = All-nil (IsLawfulJournal p);
   gathered = gathered;
-  tailed = (refl, inr (codes "instance ", refl));
+  tailed = tailed;
   read = front_nothing left;
   counted = refl;
   reported = none;
 }
+
+-- none was read yet
+pub none_yet : (p : Program) (Gathered : List Journal → Type 0) (left : Option Bytes) (report : Text) → Gathered [] → report ≡ []
+    → AreLawful p Gathered [] left left 0 report
+none_yet p Gathered left report gathered none = none_before p Gathered [] left report gathered (refl, inr (codes "instance ", refl)) none
 
 module _ (p : Program) (Old Mid : List Journal → Type 0) (left : Option Bytes) where
   module _ (mid : Option Bytes) (lines : ℕ) (report : Text) (so_far : AreLawful p (Gathers Old Mid) [] left mid lines report)
@@ -295,19 +300,5 @@ none_audited p Gathered left later first report w gathered is read none =
 pub cut_audited : (p : Program) (Gathered : List Journal → Type 0) (left later : Option Bytes) (first report : Text) (w : Whole) → Gathered []
     → w ≡ wholes.Unfinished → HasReadWhole w first left later → BeginsJournals first → report ≡ [] → HasAudited p Gathered None left report
 cut_audited p Gathered left later first report w gathered is read begins none =
-    let last = (subst (λ x. HasReadWhole x first left later) is read).0 in (
-      first,
-      left,
-      later,
-      0,
-      record {
-        journals = [];
-        lawful = All-nil (IsLawfulJournal p);
-        gathered = gathered;
-        tailed = (last.plain, begins);
-        read = front_nothing left;
-        counted = refl;
-        reported = none;
-      },
-      last,
-    )
+    let last = (subst (λ x. HasReadWhole x first left later) is read).0 in
+    (first, left, later, 0, none_before p Gathered first left report gathered (last.plain, begins) none, last)

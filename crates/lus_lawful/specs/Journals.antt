@@ -9,7 +9,7 @@ use Rattle.lus_lines.specs.Lines.{IsPlain}
 use Rattle.lus_live_instance.specs.MachineSpecs.Formals.{node_named}
 use Rattle.lus_live_instance.specs.MachineSpecs.HistorySpecs.Histories.{History}
 use Rattle.lus_printable.specs.Printable.{printable}
-use Rattle.lus_replay.specs.Replays.{IsItem, Item, ends_counted, entry_said, items_text, saids_of}
+use Rattle.lus_replay.specs.Replays.{BeginsJournal, IsItem, Item, ends_counted, entry_said, items_text, saids_of}
 
 -- the journal of an instance: its name, that of its node, and what is behind its first line
 pub record Journal : Type 0 where
@@ -40,11 +40,11 @@ pub record IsLawfulJournal (p : Program) (j : Journal) : Type 0 where
 
 -- ---- where journals end
 
--- bytes begin as journals do: with the first word of a first line, or where they end within it with a beginning of that
+-- bytes begin as journals do: with the word that a first line begins with, or, where they end within it, with its beginning
 abbrev pub BeginsJournals : Text → Type 0
-BeginsJournals bytes = ((rest : Text) × (bytes ≡ codes "instance " ++ rest)) ⊎ ((rest : Text) × (codes "instance " ≡ bytes ++ rest))
+BeginsJournals bytes = BeginsJournal bytes ⊎ ((rest : Text) × (codes "instance " ≡ bytes ++ rest))
 
--- behind the last of these journals stand bytes without a line feed, which where there is none begin as one does
+-- behind the last of these journals stand bytes without a line feed; where there is no journal, they begin as one does
 abbrev pub IsTail : List Journal → Text → Type 0
 IsTail [] tail = IsPlain tail × BeginsJournals tail
 IsTail (j ∷ js) tail = IsPlain tail

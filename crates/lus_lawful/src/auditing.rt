@@ -261,8 +261,8 @@ fn audit_all<S: Source, O: Observers>(
 
 /// Audits journals, one behind another: each is replayed on a new instance of its node, up to the first line that isn't right, and
 /// observed meanwhile. One that ends early, without the number of its entries or within a line, is audited to its last whole line, and
-/// the report says so; of one that ends within its first line it says nothing. No more is kept than an instance, two lines, the report and the observers. It is an error of a line where that is
-/// none of a journal, which no line is of journals that can be read back.
+/// the report says so; of one that ends within its first line it says nothing. No more is kept than an instance, two lines, the report
+/// and the observers. It is an error of a line where that is none of a journal, which no line is of journals that can be read back.
 pub fn audit<S: Source, O: Observers>(
     alloc: Global,
     program: &Arc<Program>,

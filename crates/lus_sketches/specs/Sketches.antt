@@ -64,7 +64,7 @@ abbrev pub IsFollowed : Program → ℕ → List Entry → Option View → Type 
 IsFollowed p f h None = ⊤
 IsFollowed p f h (Some v) = HasFollowed p f h v.window
 
--- these are the columns of entries
+-- so far a sketch has these columns of entries of node f, those of its part, and goes on behind the entries
 pub record IsSketch (s : Selection) (p : Program) (f : ℕ) (h : List Entry) (columns : List Column) (k : Sketch) : Type 0 where
   pub noted : List Noted
   pub signals : AreChosen p f s (map name_of k.signals.items) (picks_in k.view)

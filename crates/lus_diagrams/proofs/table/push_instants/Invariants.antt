@@ -1,5 +1,5 @@
--- The columns so far come before those of the rows that are left.
-use Rattle.std.proofs.Common.{◌≡◌, ◌++◌, map}
+-- The columns so far come before those of the rows that are left, and there are numbers for these.
+use Rattle.std.proofs.Common.{◌≡◌, ◌++◌, ◌+◌, length, map}
 use Rattle.std.specs.Vec.Iter.{into_iter_items}
 use Rattle.lus_diagrams.specs.Columns.{instants}
 use Rattle.lus_diagrams.specs.ColumnView.{column_seen}
@@ -7,6 +7,9 @@ use Rattle.lus_diagrams.specs.Parts.{part_behind}
 use Rattle.lus_diagrams.proofs.table.push_instants.Given as goal
 
 abbrev pub invariant-loop-cells : goal.invariant-loop-cells
-invariant-loop-cells l =
-    map column_seen l.columns.items ++ part_behind l.part l.place (instants l.number (into_iter_items l.cells-iterator))
-    ≡ map column_seen l.initial.columns.items ++ part_behind l.part l.behind (instants l.count l.fn.rows.items)
+invariant-loop-cells l = record {
+  pushed : map column_seen l.columns.items ++ part_behind l.part l.place (instants l.number (into_iter_items l.cells-iterator))
+  ≡ map column_seen l.initial.columns.items ++ part_behind l.part l.behind (instants l.count l.fn.rows.items);
+  places : l.place + length (into_iter_items l.cells-iterator) ≡ l.behind + length l.fn.rows.items;
+  numbers : l.number + length (into_iter_items l.cells-iterator) ≡ l.count + length l.fn.rows.items;
+}
