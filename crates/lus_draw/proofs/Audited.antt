@@ -1,7 +1,7 @@
 -- What an audit finds, of what was gathered.
 use Rattle.std.proofs.Common.{◌≡◌, ◌∙◌, ◌++◌, ap, arith, inl, inr, refl, subst, suc, sym, true, false, map, ℕ, Bool, List, [], ◌∷◌, Option, Some, None}
 use Rattle.std.proofs.lemmas.Bool.{true≢false}
-use Rattle.std.specs.Prelude.{⊤, IfOk, Ok, Result}
+use Rattle.std.specs.Prelude.{⊤}
 use Rattle.std.specs.List.{All}
 use Rattle.lus_values.specs.Names.{Names}
 use Rattle.lus_program.specs.Programs.{Program}
@@ -28,10 +28,6 @@ use Rattle.lus_draw.specs.Gatherings.{AreDrawn, AreTraces, AsCsv, FailsIn, HasGa
 use Rattle.lus_draw.specs.declared.words.Format.{Format}
 use Rattle.lus_draw.specs.declared.words.Format.TheVariants as formats
 use Rattle.lus_draw.proofs.Drawn.{csv_so}
-
--- what holds of a result that is a value holds of the value
-pub when_ok : {X E : Type 0} (r : Result X E) (x : X) (P : X → Type 0) → r ≡ Ok x → IfOk r P → P x
-when_ok r x P is holds = subst (λ q. IfOk q P) is holds
 
 module _ (p : Program) (Old New : List Journal → Type 0) (on : (js : List Journal) → Old js → New js) where
   lawful_as : (tail : Text) (left later : Option Bytes) (lines : ℕ) (report : Text) → AreLawful p Old tail left later lines report → AreLawful p New tail left later lines report

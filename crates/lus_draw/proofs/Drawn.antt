@@ -4,7 +4,7 @@ use Rattle.std.proofs.lemmas.Grind.{flat_map-append}
 use Rattle.std.proofs.lemmas.List.{map-append}
 use Rattle.std.specs.Global.{Vec}
 use Rattle.std.specs.Option.{option_or}
-use Rattle.std.specs.Prelude.{Err, MatchOption, Ok, OnOk, Result}
+use Rattle.std.specs.Prelude.{Err, IfOk, MatchOption, Ok, Result}
 use Rattle.lus_program.specs.Programs.{Program}
 use Rattle.lus_requests.specs.declared.request.Entry.{Entry}
 use Rattle.lus_printable.specs.Printable.{printable}
@@ -40,9 +40,14 @@ csv_so formats.Vcd P so = tt
 of_csv : (f : Format) (P : Type 0) → f ≡ formats.Csv → AsCsv f P → P
 of_csv f P is so = subst (λ g. AsCsv g P) is so
 
-pub if_ok : {T E P : Type 0} (r : Result T E) → P → OnOk r P
-if_ok (Ok x) so = so
-if_ok (Err e) so = tt
+-- of another format nothing is said
+pub other : (f : Format) (P : Type 0) → (f ≡ formats.Csv → ⊥) → AsCsv f P
+other f P isnt = csv_so f P (λ e. absurd (isnt e))
+
+-- what holds of all values holds of a result's
+pub if_ok : {T E : Type 0} (r : Result T E) (P : T → Type 0) → ((x : T) → P x) → IfOk r P
+if_ok (Ok x) P all = all x
+if_ok (Err e) P all = tt
 
 module _ (d : Drawing) (p : Program) where
   -- ---- as entries come
@@ -51,32 +56,40 @@ module _ (d : Drawing) (p : Program) where
   traced k instance columns = record { instance = instance; names = map name_of k.signals.items; columns = columns }
 
   -- before the first entry
-  pub drawn_begun : (node : ℕ) (k : Sketch) (instance table : Text) → HasSketched d.selection p node [] [] k
-      → AsCsv d.format (table ≡ head_text (map name_of k.signals.items)) → HasDrawn d p node [] k instance table
-  drawn_begun node k instance table sketched head = record {
-    columns = [];
-    sketched = sketched;
-    written = csv_so d.format (table ≡ table_text (names_of p) (traced k instance []))
-        (λ e. of_csv d.format (table ≡ head_text (map name_of k.signals.items)) e head ∙ sym (append-nil (head_text (map name_of k.signals.items))));
-  }
+  pub drawn_begun : (w : Drawing) (q : Program) (node : ℕ) (k : Sketch) (signals : List Signal) (instance table : Text) → w ≡ d → q ≡ p
+      → signals ≡ k.signals.items → HasSketched w.selection q node [] [] k → AsCsv w.format (table ≡ head_text (map name_of signals))
+      → HasDrawn d p node [] k instance table
+  drawn_begun w q node k signals instance table wanted same shown sketched head =
+      let begun = subst (λ (v : Drawing). HasSketched v.selection q node [] [] k) wanted sketched in
+      let headed = subst (λ (v : Drawing). AsCsv v.format (table ≡ head_text (map name_of signals))) wanted head in
+      record {
+        columns = [];
+        sketched = subst (λ (r : Program). HasSketched d.selection r node [] [] k) same begun;
+        written = csv_so d.format (table ≡ table_text (names_of p) (traced k instance [])) (λ e.
+            of_csv d.format (table ≡ head_text (map name_of signals)) e headed
+            ∙ ap (λ (ss : List Signal). head_text (map name_of ss)) shown
+            ∙ sym (append-nil (head_text (map name_of k.signals.items))));
+      }
 
-  module _ (node : ℕ) (h h' : List Entry) (k k' : Sketch) (same : k'.signals ≡ k.signals) (instance old new : Text) where
+  module _ (node : ℕ) (h h' : List Entry) (k k' : Sketch) (same : k'.signals ≡ k.signals) (instance : Text) where
     renamed : (columns : List Column) (table : Text) → AsCsv d.format (table ≡ table_text (names_of p) (traced k instance columns))
         → AsCsv d.format (table ≡ table_text (names_of p) (traced k' instance columns))
     renamed columns table =
         subst (λ (v : Vec Signal). AsCsv d.format (table ≡ table_text (names_of p) (record { instance = instance; names = map name_of v.items; columns = columns }))) (sym same)
 
     -- columns came, and were written
-    pub drawn_on : (cs : List Column) → ((columns : List Column) → HasSketched d.selection p node h columns k → HasSketched d.selection p node h' (columns ++ cs) k')
+    pub drawn_on : (q : Program) (old new : Text) (cs : List Column) → q ≡ p
+        → ((columns : List Column) → HasSketched d.selection q node h columns k → HasSketched d.selection q node h' (columns ++ cs) k')
         → (d.format ≡ formats.Csv → new ≡ old ++ flat_map (named_text (names_of p) (printable instance) (map name_of k'.signals.items)) cs)
         → HasDrawn d p node h k instance old → HasDrawn d p node h' k' instance new
-    drawn_on cs on text is =
+    drawn_on q old new cs is_of on text is =
         let names = map name_of k'.signals.items in
         let line = named_text (names_of p) (printable instance) names in
         let before = flat_map line is.columns in
+        let going = subst (λ (r : Program). HasSketched d.selection r node h is.columns k → HasSketched d.selection r node h' (is.columns ++ cs) k') is_of (on is.columns) in
         record {
           columns = is.columns ++ cs;
-          sketched = on is.columns is.sketched;
+          sketched = going is.sketched;
           written = csv_so d.format (new ≡ table_text (names_of p) (traced k' instance (is.columns ++ cs))) (λ e.
               text e ∙ ap (λ t. t ++ flat_map line cs) (of_csv d.format (old ≡ table_text (names_of p) (traced k' instance is.columns)) e (renamed is.columns old is.written))
               ∙ append_assoc (head_text names) before (flat_map line cs)
@@ -84,9 +97,9 @@ module _ (d : Drawing) (p : Program) where
         }
 
     -- a line came that is no entry
-    pub drawn_passed : ((columns : List Column) → HasSketched d.selection p node h columns k → HasSketched d.selection p node h' columns k')
-        → HasDrawn d p node h k instance old → HasDrawn d p node h' k' instance old
-    drawn_passed on is = record { columns = is.columns; sketched = on is.columns is.sketched; written = renamed is.columns old is.written }
+    pub drawn_passed : (table : Text) → ((columns : List Column) → HasSketched d.selection p node h columns k → HasSketched d.selection p node h' columns k')
+        → HasDrawn d p node h k instance table → HasDrawn d p node h' k' instance table
+    drawn_passed table on is = record { columns = is.columns; sketched = on is.columns is.sketched; written = renamed is.columns table is.written }
 
   -- ---- as journals come
 

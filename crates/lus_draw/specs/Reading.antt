@@ -1,8 +1,7 @@
 -- A device that is read until it fails.
-use Rattle.std.specs.Prelude.{◌≡◌, ℕ, Bool, true, false, Option}
+use Rattle.std.specs.Prelude.{ℕ, Bool, Option, if◌then◌else◌}
 use Rattle.lus_devices.specs.Devices.{one_more}
 
--- it has failed so often now: once more than before, or not
-abbrev pub HasCounted : Bool → Option ℕ → Option ℕ → Type 0
-HasCounted true now before = now ≡ one_more before
-HasCounted false now before = now ≡ before
+-- how often it has failed, where it has failed since it was opened or not, and so often before
+abbrev pub failures_since : Bool → Option ℕ → Option ℕ
+failures_since has_failed before = if has_failed then one_more before else before

@@ -11,7 +11,7 @@ ghost use Rattle.lus_draw.specs.Drawings.{Draws, DrawsLines, IsDrawingFault, IsF
 ghost use Rattle.lus_draw.specs.Gatherings.{AsCsv};
 
 use crate::gathering::{Gathered, Gathering, Selects};
-use crate::reading::{Line, Reading};
+use crate::reading::{Line, Opened, Reading};
 use crate::words::{Drawing, Format};
 use lus_cli::Fault;
 use lus_cli::lus_host::{Memory, Names, Program};
@@ -97,6 +97,26 @@ fn gathered<K: Selects, S: Source>(
     }
 }
 
+/// What is gathered of the journals of a file as it is read.
+fn streamed<K: Selects, S: Source>(
+    alloc: Global,
+    program: &Arc<Program>,
+    wanted: Drawing<'_>,
+    file: &mut Opened<S, K>,
+) -> Result<Gathered, Fault>
+    requires { drawing_seen wanted ≡ K.wanted }
+    ensures drawn { IfOk result (λ g. IsGathered (program_of (arc_value program.now)) K.wanted (S.left file.old.source) (map string_bytes g.tables.items)) }
+    ensures fault { IfErr result (λ f. IsDrawingFault K.wanted.selection (program_of (arc_value program.now)) ⊤ (S.left file.old.source) f) }
+{
+    let line = Line::new(alloc);
+    let source = Buffered::new(file);
+    let mut reading = Reading {
+        line: &line,
+        source,
+    };
+    gathered::<K, _>(alloc, program, wanted, &line, &mut reading)
+}
+
 /// A page of the lines of journals, with further ones for what is drawn.
 fn page(alloc: Global, names: &Names, journals: &str, drawn: &[Trace]) -> Result<String, Memory>
     ensures { IfOk result (λ s. DrawsLines journals.now (string_bytes s)) }
@@ -115,13 +135,15 @@ fn written(
     names: &Names,
     gathered: Gathered,
 ) -> Result<String, Memory>
+    requires { is_page wanted.format ≡ false }
     ensures { IfOk result (λ s. AsCsv wanted.entry.format (string_bytes s ≡ joined (map string_bytes gathered.tables.items))) }
 {
     match wanted.format {
         Format::Csv => Ok(csv(alloc, gathered.tables)?),
         Format::Vcd => Ok(vcd(alloc, gathered.dumps)?),
         Format::Waves => waves(alloc, names, wanted.part.from, &gathered.traces),
-        Format::Text | Format::Html => text(alloc, names, &gathered.traces),
+        Format::Text => text(alloc, names, &gathered.traces),
+        Format::Html => unreachable!(),
     }
 }
 
@@ -184,11 +206,10 @@ pub fn drawing<S: Source + Drop, K: Selects>(
     ensures fault { IfErr result (λ f. IsDrawingFault K.wanted.selection (program_of (arc_value program.now))
         ((after : S) × (S.failures after ≡ one_more K.failures)) (S.left file) f) }
 {
-    let line = Line::new(alloc);
-    let mut source: Reading<'_, Buffered<S>, K> = Reading::new(&line, Buffered::new(file));
-    let found = match gathered::<K, _>(alloc, program, wanted, &line, &mut source) {
+    let mut file: Opened<S, K> = Opened::new(file);
+    let found = match streamed(alloc, program, wanted, &mut file) {
         Ok(found) => found,
-        Err(fault) => return Err(ended(fault, source.has_failed)),
+        Err(fault) => return Err(ended(fault, file.has_failed)),
     };
     match written(alloc, wanted, program.names(), found) {
         Ok(written) => Ok(written),

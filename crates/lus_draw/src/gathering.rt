@@ -1,6 +1,7 @@
 //! What is drawn of all journals of a file, gathered as they are audited.
 
-ghost use Rattle.std.specs.Prelude.{◌≡◌, ◌++◌, ◌∷◌, [], IfOk, None, OnOk, map, string_bytes};
+ghost use Rattle.std.specs.Prelude.{◌≡◌, ◌<◌, ◌++◌, ◌∷◌, [], IfOk, None, OnOk, length, map, string_bytes};
+ghost use Rattle.lus_cli.specs.CodeSpecs.Codes.{program_of};
 ghost use Rattle.lus_traces.specs.Tables.{head_text};
 ghost use Rattle.lus_traces.specs.Traces.{name_of};
 ghost use Rattle.lus_draw.specs.CommandLine.{drawing_seen};
@@ -113,7 +114,8 @@ impl<K: Selects> Observer for Sketching<'_, K> {
                 push_columns(alloc, &mut self.table, names, instance, signals, &columns)
             }
             Format::Vcd => push_times(alloc, names, &mut self.dump, columns),
-            Format::Text | Format::Waves | Format::Html => {
+            Format::Html => push_all(&mut self.columns, columns),
+            Format::Text | Format::Waves => {
                 push_all(&mut self.columns, columns)?;
                 push_refusal(
                     alloc,
@@ -229,6 +231,38 @@ impl<'a, K: Selects> Gathering<'a, K> {
             of: PhantomData,
         }
     }
+
+    /// The table or the dump of a journal before its first entry, where it is drawn as such.
+    fn begun(
+        &self,
+        alloc: Global,
+        names: &Names,
+        heading: &Heading,
+        signals: &[Signal],
+    ) -> Result<(String, Option<Dump>), Memory>
+        ensures { IfOk result (λ r. AsCsv self.now.wanted.format (string_bytes r.0 ≡ head_text (map name_of signals.now))) }
+    {
+        let mut table = String::new(alloc);
+        match self.wanted.format {
+            Format::Csv => {
+                push_head(alloc, &mut table, signals)?;
+                Ok((table, None))
+            }
+            Format::Vcd => {
+                let number = self.gathered.dumps.len().saturating_add(1);
+                let dump = Dump::new(alloc, names, number, heading, signals)?;
+                Ok((table, Some(dump)))
+            }
+            Format::Text | Format::Waves | Format::Html => Ok((table, None)),
+        }
+    }
+}
+
+/// The name of a program's node.
+fn name_of_node(program: &Program, node: NodeId) -> &str
+    requires { node.0 < length (program_of program.now).nodes }
+{
+    program.source().nodes[node.0 as usize].name.as_str()
 }
 
 /// The instance and its node, of a journal whose first line has this number.
@@ -239,42 +273,15 @@ fn heading(
     node: NodeId,
     line: u64,
 ) -> Result<Heading, Memory>
+    requires { node.0 < length (program_of program.now).nodes }
     ensures { IfOk result (λ h. string_bytes h.instance ≡ instance.now) }
 {
-    let Some(found) = program.source().nodes.get(node.0 as usize) else {
-        return Err(Memory);
-    };
     Ok(Heading {
         instance: String::from_str(alloc, instance)?,
-        node: String::from_str(alloc, found.name.as_str())?,
+        node: String::from_str(alloc, name_of_node(program, node))?,
         line,
         ends_early: None,
     })
-}
-
-/// The table or the dump of a journal before its first entry, where it is drawn as such. Its dump has this number.
-fn begun(
-    alloc: Global,
-    names: &Names,
-    format: Format,
-    number: usize,
-    heading: &Heading,
-    signals: &[Signal],
-) -> Result<(String, Option<Dump>), Memory>
-    ensures { IfOk result (λ r. AsCsv format (string_bytes r.0 ≡ head_text (map name_of signals.now))) }
-{
-    let mut table = String::new(alloc);
-    match format {
-        Format::Csv => {
-            push_head(alloc, &mut table, signals)?;
-            Ok((table, None))
-        }
-        Format::Vcd => {
-            let dump = Dump::new(alloc, names, number, heading, signals)?;
-            Ok((table, Some(dump)))
-        }
-        Format::Text | Format::Waves | Format::Html => Ok((table, None)),
-    }
 }
 
 impl<'a, K: Selects> Observers for Gathering<'a, K> {
@@ -303,15 +310,7 @@ impl<'a, K: Selects> Observers for Gathering<'a, K> {
             line,
         )?;
         let heading = heading(alloc, program, instance, node, line)?;
-        let number = self.gathered.dumps.len().saturating_add(1);
-        let (table, dump) = begun(
-            alloc,
-            names,
-            wanted.format,
-            number,
-            &heading,
-            &sketch.signals,
-        )?;
+        let (table, dump) = self.begun(alloc, names, &heading, &sketch.signals)?;
         Ok(Sketching {
             sketch,
             format: wanted.format,

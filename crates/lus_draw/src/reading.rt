@@ -1,7 +1,8 @@
 //! A file of journals as it is read, with the line that is being read.
 
-ghost use Rattle.std.specs.Prelude.{◌≡◌};
-ghost use Rattle.lus_draw.specs.Reading.{HasCounted};
+ghost use Rattle.std.specs.Prelude.{◌≡◌, None};
+ghost use Rattle.std.proofs.Props.{props};
+ghost use Rattle.lus_draw.specs.Reading.{failures_since};
 
 use crate::gathering::Selects;
 use lus_cli::lus_host::Memory;
@@ -46,24 +47,41 @@ impl Line {
     }
 }
 
+/// A device whose line that is being read is kept.
+#[derive(Drop)]
+pub struct Reading<'a, S> {
+    pub line: &'a Line,
+    pub source: S,
+}
+
+impl<S: Source> Source for Reading<'_, S> {
+    ghost left = { λ r. S.left r.source };
+
+    ghost failures = { λ r. S.failures r.source };
+
+    fn read(&mut self, buffer: &mut [u8]) -> Result<usize, Failure> {
+        let given = self.source.read(buffer)?;
+        self.line.go_on(&buffer[..given]);
+        Ok(given)
+    }
+}
+
 /// A file that is read until it fails.
 #[derive(Drop)]
-pub struct Reading<'a, S: Source, K: Selects> {
-    line: &'a Line,
+pub struct Opened<S: Source, K: Selects> {
     source: S,
     pub has_failed: bool,
     of: PhantomData<K>,
-    ghost counted: { HasCounted has_failed (S.failures source) K.failures },
+    ghost counted: { S.failures source ≡ failures_since has_failed K.failures } by { Prim.hlevel props },
 }
 
-impl<'a, S: Source, K: Selects> Reading<'a, S, K> {
+impl<S: Source, K: Selects> Opened<S, K> {
     /// A file of which nothing is read yet.
-    pub fn new(line: &'a Line, source: S) -> Reading<'a, S, K>
+    pub fn new(source: S) -> Opened<S, K>
         requires { S.failures source ≡ K.failures }
         ensures { S.left result.source ≡ S.left source }
     {
-        Reading {
-            line,
+        Opened {
             source,
             has_failed: false,
             of: PhantomData,
@@ -71,10 +89,8 @@ impl<'a, S: Source, K: Selects> Reading<'a, S, K> {
     }
 }
 
-impl<S: Source, K: Selects> Source for Reading<'_, S, K> {
-    ghost use Rattle.std.specs.Prelude.{None};
-
-    ghost left = { λ r. S.left r.source };
+impl<S: Source, K: Selects> Source for Opened<S, K> {
+    ghost left = { λ f. S.left f.source };
 
     ghost failures = { λ _. None };
 
@@ -86,7 +102,16 @@ impl<S: Source, K: Selects> Source for Reading<'_, S, K> {
             self.has_failed = true;
             return Err(Failure);
         };
-        self.line.go_on(&buffer[..given]);
         Ok(given)
+    }
+}
+
+impl<S: Source, K: Selects> Source for &mut Opened<S, K> {
+    ghost left = { λ f. S.left f.now.source };
+
+    ghost failures = { λ _. None };
+
+    fn read(&mut self, buffer: &mut [u8]) -> Result<usize, Failure> {
+        Source::read(&mut **self, buffer)
     }
 }
