@@ -50,23 +50,17 @@ module _ (p : Program) (Old New : List Journal → Type 0) (on : (js : List Jour
 -- what is gathered of lawful journals may name what there is of them
 pub audited_some : (p : Program) (A : Type 0) (Of : A → List Journal → Type 0) (left : Option Bytes) (report : Text)
     → HasAudited p (λ js. (a : A) × Of a js) None left report → (a : A) × HasAudited p (Of a) None left report
-audited_some p A Of left report (tail, mid, end, lines, are, last) = (
-  are.gathered.0,
-  tail,
-  mid,
-  end,
-  lines,
-  record {
-    journals = are.journals;
-    lawful = are.lawful;
-    gathered = are.gathered.1;
-    tailed = are.tailed;
-    read = are.read;
-    counted = are.counted;
-    reported = are.reported;
-  },
-  last,
-)
+audited_some p A Of left report (tail, mid, end, lines, are, last) =
+    let lawful = record {
+      journals = are.journals;
+      lawful = are.lawful;
+      gathered = are.gathered.1;
+      tailed = are.tailed;
+      read = are.read;
+      counted = are.counted;
+      reported = are.reported;
+    } in
+    (are.gathered.0, (tail, mid, end, lines, lawful, last))
 
 module _ (d : Drawing) (p : Program) where
   none_drawn_yet : AreDrawn d p [] []

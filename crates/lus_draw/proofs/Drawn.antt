@@ -7,7 +7,6 @@ use Rattle.std.specs.Option.{option_or}
 use Rattle.std.specs.Prelude.{Err, IfOk, MatchOption, Ok, Result}
 use Rattle.lus_program.specs.Programs.{Program}
 use Rattle.lus_requests.specs.declared.request.Entry.{Entry}
-use Rattle.lus_printable.specs.Printable.{printable}
 use Rattle.lus_diagrams.specs.Columns.{Column, columns_of}
 use Rattle.lus_diagrams.specs.Parts.{part_of}
 use Rattle.lus_lawful.specs.Journals.{Journal, entries_of}
@@ -16,7 +15,7 @@ use Rattle.lus_sketches.specs.declared.sketches.Failure.{Failure}
 use Rattle.lus_sketches.specs.declared.sketches.Sketch.{Sketch}
 use Rattle.lus_traces.specs.Pages.{line_seen, page_text, text_of, whole_lines}
 use Rattle.lus_traces.specs.declared.lines.Line as code
-use Rattle.lus_traces.specs.Tables.{head_text, named_text, table_text}
+use Rattle.lus_traces.specs.Tables.{column_text, head_text, table_text}
 use Rattle.lus_traces.specs.Traces.{Trace, name_of}
 use Rattle.lus_traces.specs.declared.trace.Signal.{Signal}
 use Rattle.lus_cli.specs.CommandLine.{Text}
@@ -80,11 +79,11 @@ module _ (d : Drawing) (p : Program) where
     -- columns came, and were written
     pub drawn_on : (q : Program) (old new : Text) (cs : List Column) → q ≡ p
         → ((columns : List Column) → HasSketched d.selection q node h columns k → HasSketched d.selection q node h' (columns ++ cs) k')
-        → (d.format ≡ formats.Csv → new ≡ old ++ flat_map (named_text (names_of p) (printable instance) (map name_of k'.signals.items)) cs)
+        → (d.format ≡ formats.Csv → new ≡ old ++ flat_map (column_text (names_of p) (traced k' instance [])) cs)
         → HasDrawn d p node h k instance old → HasDrawn d p node h' k' instance new
     drawn_on q old new cs is_of on text is =
         let names = map name_of k'.signals.items in
-        let line = named_text (names_of p) (printable instance) names in
+        let line = column_text (names_of p) (traced k' instance []) in
         let before = flat_map line is.columns in
         let going = subst (λ (r : Program). HasSketched d.selection r node h is.columns k → HasSketched d.selection r node h' (is.columns ++ cs) k') is_of (on is.columns) in
         record {

@@ -1,7 +1,6 @@
 -- What was gathered of lawful journals is drawn on a page.
 use Rattle.std.proofs.Common.{◌≡◌, ap, map, string_bytes, subst, sym, true, false, Some}
 use Rattle.std.proofs.lemmas.Bool.{true≢false}
-use Rattle.std.specs.Prelude.{⊥}
 use Rattle.std.specs.Arc.{arc_value}
 use Rattle.lus_cli.specs.CodeSpecs.Codes.{program_of}
 use Rattle.lus_cli.specs.MachineSpecs.Constructors.{names_of}

@@ -1,7 +1,9 @@
 -- What is drawn of the bytes that were read is drawn of the file's.
-use Rattle.std.proofs.Common.{◌≡◌, ◌<◌, Some, absurd, inr, length, arith, string_bytes, subst}
+use Rattle.std.proofs.Common.{◌≡◌, ◌<◌, Some, inr, length, arith, string_bytes, subst}
 use Rattle.std.proofs.lemmas.Result.{IfErr-weaker, IfOk-weaker}
 use Rattle.std.specs.Arc.{arc_value}
+use Rattle.lus_devices.specs.Devices.{one_more}
+use Rattle.lus_devices.specs.Folders.{Holds}
 use Rattle.lus_cli.specs.CodeSpecs.Codes.{program_of}
 use Rattle.lus_cli.specs.Ends.{ReadFails}
 use Rattle.lus_draw.specs.CommandLine.{drawing_seen}
@@ -30,13 +32,15 @@ returns-then-is_page g c =
 pub returns-in-Ok : goal.returns-in-Ok
 returns-in-Ok g c =
     let journal = g.D.Folder.known c.args.folder.now c.args.task.journal.now in
-    let left = g.D.File.Source.left c.in-Ok.journal in
+    let file = c.in-Ok.journal in
+    let left = g.D.File.Source.left file in
+    let holds : Holds journal left = c.in-Ok.ensures.opened in
     let p = program_of (arc_value c.args.program.now) in
     let d = drawing_seen c.args.task in
-    let holds = subst (λ r. _) c.in-Ok.is c.open.ensures.opened in
+    let Failed : Type 0 = (after : g.row.D-File.Denot) × (g.D.File.Source.failures after ≡ one_more (g.D.File.Source.failures file)) in
     record {
       drawn = IfOk-weaker c.drawing.result _ _ (λ s drawn. file_so (λ o. Draws p d o (string_bytes s)) journal left holds drawn) c.drawing.ensures.drawn;
       fault = IfErr-weaker c.drawing.result _ _ (λ f cause.
-          left_fails (ReadFails g.row.D-File.Denot g.D.File.Source.left g.D.File.Source.failures) journal p d _ left holds
-          (λ failed. inr (c.in-Ok.journal, failed.0, holds, failed.1)) f cause) c.drawing.ensures.fault;
+          left_fails (ReadFails g.row.D-File.Denot g.D.File.Source.left g.D.File.Source.failures) journal p d Failed left holds
+          (λ failed. inr (file, failed.0, holds, failed.1)) f cause) c.drawing.ensures.fault;
     }

@@ -1,11 +1,9 @@
 -- The entry's columns are drawn behind those before it.
-use Rattle.std.proofs.Common.{◌≡◌, ◌∙◌, ◌++◌, ◌∷◌, [], flat_map, map, string_bytes}
+use Rattle.std.proofs.Common.{◌≡◌, ◌∙◌, ◌++◌, [], flat_map, map, string_bytes}
 use Rattle.std.proofs.lemmas.Result.{IfOk-weaker}
-use Rattle.lus_printable.specs.Printable.{printable}
-use Rattle.lus_play.specs.Plays.{entry_of}
 use Rattle.lus_program.specs.View.{program_seen}
 use Rattle.lus_diagrams.specs.ColumnView.{column_seen}
-use Rattle.lus_traces.specs.Tables.{named_text}
+use Rattle.lus_traces.specs.Tables.{column_text}
 use Rattle.lus_traces.specs.Traces.{name_of}
 use Rattle.lus_cli.specs.CodeSpecs.Codes.{program_of}
 use Rattle.lus_draw.proofs.Drawn.{drawn_on, if_ok}
@@ -15,14 +13,15 @@ pub returns-in-Csv : goal.returns-in-Csv
 returns-in-Csv g c =
     let d = g.K.Selects.wanted in
     let p = program_of c.args.program.now in
+    let node = c.args._node.0 in
     let o = c.args.self.now in
     let table = string_bytes o.table in
     IfOk-weaker c.push_columns.result _ _ (λ done pushed h is.
-        drawn_on d p c.args._node.0 h (h ++ entry_of c.args.request.now c.args.reply.now ∷ []) o.sketch c.see.new.self c.see.ensures.same.signals
-        (string_bytes o.heading.instance) (program_seen c.source.result.now) table (string_bytes c.push_columns.new.out)
-        (map column_seen c.in_ok-columns.columns.items) c.source.ensures.same
-        (λ columns. c.in_ok-columns.ensures.sketched d.selection c.args._node.0 h columns)
-        (λ e. pushed ∙ (λ x. table ++ flat_map (named_text (c.names-names.ensures x) (printable (c.as_str.ensures.value x)) (map name_of (c.deref.ensures.value x)))
+        drawn_on d p node h _ o.sketch c.see.new.self c.see.ensures.same.signals (string_bytes o.heading.instance) (program_seen c.source.result.now)
+        table (string_bytes c.push_columns.new.out) (map column_seen c.in_ok-columns.columns.items) c.source.ensures.same
+        (λ columns. c.in_ok-columns.ensures.sketched d.selection node h columns)
+        (λ e. pushed ∙ (λ x. table ++ flat_map
+            (column_text (c.names-names.ensures x) (record { instance = c.as_str.ensures.value x; names = map name_of (c.deref.ensures.value x); columns = [] }))
             (map column_seen (c.deref-2.ensures.value x)))) is)
     c.push_columns.ensures
 
@@ -30,11 +29,12 @@ pub returns-in-Vcd : goal.returns-in-Vcd
 returns-in-Vcd g c =
     let d = g.K.Selects.wanted in
     let p = program_of c.args.program.now in
+    let node = c.args._node.0 in
     let o = c.args.self.now in
+    let table = string_bytes o.table in
     let kind = o.format_is in
     let is_vcd = c.in-Vcd.is in
     if_ok c.push_times.result _ (λ done h is.
-        drawn_on d p c.args._node.0 h (h ++ entry_of c.args.request.now c.args.reply.now ∷ []) o.sketch c.see.new.self c.see.ensures.same.signals
-        (string_bytes o.heading.instance) (program_seen c.source.result.now) (string_bytes o.table) (string_bytes o.table)
-        (map column_seen c.in_ok-columns.columns.items) c.source.ensures.same
-        (λ columns. c.in_ok-columns.ensures.sketched d.selection c.args._node.0 h columns) (λ e. absurd (cc)) is)
+        drawn_on d p node h _ o.sketch c.see.new.self c.see.ensures.same.signals (string_bytes o.heading.instance) (program_seen c.source.result.now)
+        table table (map column_seen c.in_ok-columns.columns.items) c.source.ensures.same
+        (λ columns. c.in_ok-columns.ensures.sketched d.selection node h columns) (λ e. absurd (cc)) is)
