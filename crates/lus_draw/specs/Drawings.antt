@@ -63,7 +63,7 @@ IsJournalFault p left n = AreNone p left ⊎ ((report : Text) × HasAudited p (�
 abbrev pub LacksSignal : Selection → Program → Option Text → ℕ → Type 0
 LacksSignal s p left place = (report : Text) × HasAudited p (λ js. FailsIn s p js (failures.Unknown place)) None left report
 
--- the device that gives what is left failed where this holds
+-- why nothing is drawn of what a device has left; where it is the device's fault, what says that it failed
 abbrev pub IsDrawingFault : Selection → Program → Type 0 → Option Text → Fault → Type 0
 IsDrawingFault s p Failed left (faults.Journal n) = IsJournalFault p left n
 IsDrawingFault s p Failed left (faults.Signal place) = LacksSignal s p left place
