@@ -64,4 +64,11 @@ impl Log for JournalFile<'_> {
             }
         }
     }
+
+    fn cut(&mut self, bytes: u64) -> Result<(), Failure> {
+        match &self.file {
+            Some(file) => file.set_len(bytes).map_err(|_| Failure),
+            None => Err(Failure),
+        }
+    }
 }

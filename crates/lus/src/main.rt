@@ -50,23 +50,52 @@ fn tool_and_words(arguments: &[String]) -> (&str, &[String]) {
     }
 }
 
-/// Hosts many instances, or audits their log. Keys for the hash function of their names come from the machine.
-fn many<O: Sink, F: Sink>(
+/// Audits the log of many instances. Keys for the hash function of their names come from the machine.
+fn audit_many<O: Sink, F: Sink>(
     rt: &HostRuntime,
-    tool: &str,
     words: &[String],
     output: &mut O,
     faults: &mut F,
 ) -> u8 {
-    let disk = Disk(rt);
     let Ok(keys) = RandomState::new(rt) else {
         return tell(faults, Fault::File);
     };
-    if tool == "lus_audit" {
-        return lus_audit::command_many(rt.alloc(), &disk, words, keys, output, faults);
+    lus_audit::command_many(rt.alloc(), &Disk(rt), words, keys, output, faults)
+}
+
+/// Says that another run writes to the file of a journal or a log, where it is held.
+fn tell_held<F: Sink>(log: &JournalFile<'_>, what: &str, faults: &mut F) {
+    if log.is_held() {
+        for piece in ["lus_live: another run writes to this ", what, "\n"] {
+            let _ = write_all(faults, piece.as_bytes());
+        }
     }
+}
+
+/// Hosts many instances, and perhaps goes on in the file of their log.
+fn live_many<O: Sink, F: Sink>(
+    rt: &HostRuntime,
+    words: &[String],
+    output: &mut O,
+    faults: &mut F,
+) -> u8 {
+    let Ok(keys) = RandomState::new(rt) else {
+        return tell(faults, Fault::File);
+    };
     let mut lines = Buffered::new(Input(rt.stdin()));
-    lus_many::command(rt.alloc(), &disk, words, keys, &mut lines, output, faults)
+    let mut log = JournalFile::new(rt);
+    let status = lus_many::command(
+        rt.alloc(),
+        &Disk(rt),
+        words,
+        keys,
+        &mut lines,
+        &mut log,
+        output,
+        faults,
+    );
+    tell_held(&log, "log", faults);
+    status
 }
 
 /// Plays calls on an instance, and perhaps goes on in the file of its journal.
@@ -87,9 +116,7 @@ fn live<O: Sink, F: Sink>(
         output,
         faults,
     );
-    if log.is_held() {
-        let _ = write_all(faults, b"lus_live: another run writes to this journal\n");
-    }
+    tell_held(&log, "journal", faults);
     status
 }
 
@@ -109,7 +136,8 @@ fn run<O: Sink, F: Sink>(
             lus_formatter::command(rt.alloc(), &disk, words, &mut input, output, faults)
         }
         "lus_draw" => lus_draw::command(rt.alloc(), &disk, words, output, faults),
-        "lus_audit" | "lus_live" if is_many(words) => many(rt, tool, words, output, faults),
+        "lus_audit" if is_many(words) => audit_many(rt, words, output, faults),
+        "lus_live" if is_many(words) => live_many(rt, words, output, faults),
         "lus_audit" => lus_audit::command(rt.alloc(), &disk, words, output, faults),
         "lus_live" => live(rt, words, output, faults),
         "lus_lsp" => {

@@ -2,7 +2,7 @@
 
 use lus_hosting::lus_live_instance::Score;
 use lus_hosting::lus_live_instance::lus_machine::compile;
-use lus_hosting::{audit_log, host_log};
+use lus_hosting::{LogLines, audit_log, host_behind, host_log, logs_are_joined, recover_log};
 use std::collections::hash_map::RandomState;
 use std::sync::Arc;
 use std::test::Fail;
@@ -78,5 +78,63 @@ fn a_log_is_written_and_lawful(rt: HostRuntime) -> Result<(), Fail> {
     };
     assert!(&rt; !report.is_lawful);
     assert_eq!(rt; report.text.as_slice(), REPORT.as_bytes());
+    Ok(())
+}
+
+const CUT: &str = "k 1 x step(2) -> (2)\nl 1 x step(3) -> (3)\nk 2 y st";
+
+const MORE: &str = "k 2 z step(4) -> (6)\n";
+
+#[test]
+fn a_log_is_gone_on_in(rt: HostRuntime) -> Result<(), Fail> {
+    let alloc = rt.alloc();
+    let Ok(program) = compile(alloc, PROGRAM) else {
+        panic!(&rt; "the program is right")
+    };
+    let program = Arc::new(alloc, program)?;
+    let Some(node) = program.node("sum") else {
+        panic!(&rt; "the node is there")
+    };
+    assert!(&rt; program.has(node));
+    let mut line = Vec::new(alloc);
+    let mut right = String::new(alloc);
+    let mut source = CUT.as_bytes();
+    let keys = RandomState::new(&rt)?;
+    let recovered = recover_log(
+        alloc, &program, node, keys, &mut source, &mut line, &mut right,
+    );
+    let Ok(recovered) = recovered else {
+        panic!(&rt; "it is a log")
+    };
+    assert_eq!(rt; recovered.cut, Some(3));
+    assert_eq!(rt; recovered.bytes, 42);
+
+    let teller = LogLines {
+        alloc,
+        names: program.names(),
+    };
+    let mut calls = "k [4]\nk 3 z step(4) -> (10)\n".as_bytes();
+    let mut log = Vec::new(alloc);
+    let mut output = Vec::new(alloc);
+    let hosted = host_behind(
+        alloc,
+        &program,
+        node,
+        recovered,
+        Some("z"),
+        &teller,
+        &mut calls,
+        &mut log,
+        &mut output,
+    );
+    let score = Score {
+        entered: 1,
+        refused: 1,
+    };
+    assert_eq!(rt; hosted, Ok(score));
+    assert_eq!(rt; log.as_slice(), MORE.as_bytes());
+    let answers = "k 2 z step(4) -> (6)\nk # z it is no value of JSON\n";
+    assert_eq!(rt; output.as_slice(), answers.as_bytes());
+    logs_are_joined();
     Ok(())
 }

@@ -31,11 +31,11 @@ use Rattle.lus_hosting.proofs.WordLaws.{line_whole, logged_begins, name_word, no
 
 -- ---- one line more
 
-behind_more : (log : List Logged) (is : List LogLine) (i : LogLine) → log_behind log (is ++ i ∷ []) ≡ log_behind log is ++ entry_in i
+pub behind_more : (log : List Logged) (is : List LogLine) (i : LogLine) → log_behind log (is ++ i ∷ []) ≡ log_behind log is ++ entry_in i
 behind_more log [] i = refl
 behind_more log (j ∷ is) i = behind_more (log ++ entry_in j) is i
 
-text_more : (names : Names) (log : List Logged) (is : List LogLine) (i : LogLine)
+pub text_more : (names : Names) (log : List Logged) (is : List LogLine) (i : LogLine)
     → lines_text names log (is ++ i ∷ []) ≡ lines_text names log is ++ line_in names (log_behind log is) i
 text_more names log [] i = append-nil (line_in names log i)
 text_more names log (j ∷ is) i =

@@ -287,7 +287,8 @@ module _ (p : Program) (accepted : IsAccepted p) (f : ℕ) (begun : Option Bytes
       → FindsLine kind p f (entries_in lines) mid later line right new → kind ≡ founds.Over → (report : Text) → report ≡ codes "entries " ++ decimal entries ++ codes " lawful\n"
       → HasAuditedLog p f true begun report × FindsInLog p f true begun report
   audited_all kind later line right new finds kind_is report is =
-      let last : IsLast [] mid later = finds_as p f begun mid instances turn entries audited kind later line right new finds founds.Over kind_is in
+      let found = finds_as p f begun mid instances turn entries audited kind later line right new finds founds.Over kind_is in
+      let last : IsLast [] mid later = found.0 in
       let reported : report ≡ lawful_log_text (entries_in lines) = is ∙ ap (λ n. codes "entries " ++ decimal n ++ codes " lawful\n") audited.entered in (
         record {
           lines = lines;
@@ -338,10 +339,18 @@ module _ (p : Program) (accepted : IsAccepted p) (f : ℕ) (begun : Option Bytes
       )
 
   -- no line is
-  pub audited_none : (kind : Found) (later : Option Bytes) (line right : Text) (new : Instances)
-      → FindsLine kind p f (entries_in lines) mid later line right new → kind ≡ founds.NoLine → IsNoLog p begun
-  audited_none kind later line right new finds kind_is gs readable spelled =
-      let none : IsNoneLeft (names_of p) (entries_in lines) mid =
-      finds_as p f begun mid instances turn entries audited kind later line right new finds founds.NoLine kind_is in
+  none_found : IsNoneLeft (names_of p) (entries_in lines) mid → IsNoLog p begun
+  none_found none gs readable spelled =
       let x = left_is gs readable spelled in
       none_here p accepted f lines gs x.0 (front_is gs readable spelled) lawful (subst (IsNoneLeft (names_of p) (entries_in lines)) x.1 none)
+
+  pub audited_none : (kind : Found) (later : Option Bytes) (line right : Text) (new : Instances)
+      → FindsLine kind p f (entries_in lines) mid later line right new → kind ≡ founds.NoLine → IsNoLog p begun
+  audited_none kind later line right new finds kind_is =
+      none_found (finds_as p f begun mid instances turn entries audited kind later line right new finds founds.NoLine kind_is)
+
+  -- or a part of one
+  pub audited_cut : (kind : Found) (later : Option Bytes) (line right : Text) (new : Instances)
+      → FindsLine kind p f (entries_in lines) mid later line right new → kind ≡ founds.Cut → IsNoLog p begun
+  audited_cut kind later line right new finds kind_is =
+      let found = finds_as p f begun mid instances turn entries audited kind later line right new finds founds.Cut kind_is in none_found found.0

@@ -12,8 +12,8 @@ use Rattle.lus_replay.proofs.Follows.{at_end, front_known}
 use Rattle.lus_replay.proofs.Splits.{line_feeds, line_some, lines_split}
 use Rattle.lus_replay.specs.declared.line.Verdict.TheVariants as verdicts
 use Rattle.lus_live_instance.specs.MachineSpecs.Constructors.{names_of}
-use Rattle.lus_hosting.specs.Audits.{AsksLogged, FindsLine, IsFound, IsReadableLine, LogEntry, LogLine, LogNote, line_in}
-use Rattle.lus_hosting.specs.Hosts.{HasReplayedOn}
+use Rattle.lus_hosting.specs.Audits.{AsksLogged, FindsLine, IsFound, IsNoneLeft, IsReadableLine, LogEntry, LogLine, LogNote, line_in}
+use Rattle.lus_hosting.specs.Hosts.{HasReplayedOn, Keeps}
 use Rattle.lus_hosting.specs.Logs.{IsWord, Logged, behind_of, next_of}
 use Rattle.lus_hosting.specs.declared.auditing.Found.{Found}
 use Rattle.lus_hosting.specs.declared.auditing.Found.TheVariants as founds
@@ -112,10 +112,11 @@ module _ (p : Program) (f : ℕ) (log : List Logged) (left later : Option Bytes)
         let parts = lines_split line (line_in (names_of p) log g) rest.0 x whole other (sym rest.2) in
         is g readable parts.0);
   }
+  line_left founds.Cut whole read is = absurd is
   line_left founds.Over whole read is = absurd is
 
-  pub tail_left : IsLast line left later → 0 < length line → FindsLine founds.NoLine p f log left later line right new
-  tail_left last some = record {
+  none_left : IsLast line left later → 0 < length line → IsNoneLeft (names_of p) log left
+  none_left last some = record {
     some = λ none.
         (let end = at_end [] line later (sym none ∙ last.read) last.over in
         let empty = ap length end.1 in
@@ -124,3 +125,6 @@ module _ (p : Program) (f : ℕ) (log : List Logged) (left later : Option Bytes)
         (let end = at_end (line_in (names_of p) log g ++ x) line later (sym spelled ∙ last.read) last.over in
         line_feeds (line_in (names_of p) log g) x whole (subst IsPlain (sym end.1) last.plain));
   }
+
+  pub tail_left : IsLast line left later → 0 < length line → Keeps p f log new → FindsLine founds.Cut p f log left later line right new
+  tail_left last some keeps = (none_left last some, last, some, keeps)

@@ -19,7 +19,6 @@ use Rattle.lus_live_instance.specs.MachineSpecs.HistorySpecs.Histories.{History,
 use Rattle.indexmap.specs.IndexMap.{get_by_text}
 use Rattle.lus_hosting.specs.Hosts.{HasCalled, HasReplayedOn, KeepsIn, Stands, logged}
 use Rattle.lus_hosting.specs.Logs.{Logged, entries_of, is_of, next_of}
-use Rattle.lus_hosting.specs.Spellings.{Spelling}
 use Rattle.lus_hosting.specs.declared.instances.Instances.{Instances}
 use Rattle.lus_hosting.specs.declared.hosted.Hosted.{Hosted}
 
@@ -113,13 +112,16 @@ module _ (p : Program) (f : ℕ) (log : List Logged) (g g' : Text → Option Hos
 
   module _ (h h' : Hosted) (has : g instance ≡ Some h) (updates : (name : Text) → g' name ≡ cond (bytes_eq instance name) (Some h') (g name))
       (live : IsLive p f h.instance.reactor → IsLive p f h'.instance.reactor) where
-    -- a call was made on one, whose entry is told
-    pub called_on : (s : Spelling) (caller : Text) (r : Request) (text : Text) → HasCalled s instance caller r h h' text
-        → (a : Reply) × (text ≡ s.tells instance caller (next_of instance log) (entry_of r a)) × KeepsIn p f (log ++ logged instance caller r a ∷ []) g'
-    called_on s caller r text called = (
+    -- a call was made on one
+    pub called_on : (r : Request) (n : ℕ) (e : Entry) → HasCalled r h h' n e
+        → (a : Reply) × (e ≡ entry_of r a) × (n ≡ next_of instance log) × ((caller : Text) → KeepsIn p f (log ++ logged instance caller r a ∷ []) g')
+    called_on r n e called = (
       called.0,
-      called.3 ∙ ap (λ n. s.tells instance caller n (entry_of r called.0)) (numbered h has),
-      entered h h' (record { caller = caller; request = r; reply = called.0 }) has updates (live (is_live h has)) called.1 called.2,
+      called.1,
+      called.2 ∙ numbered h has,
+      λ caller.
+          entered h h' (record { caller = caller; request = r; reply = called.0 }) has updates (live (is_live h has))
+          (called.3 ∙ ap (λ d. h.instance.reactor.history ++ d ∷ []) called.1) called.4,
     )
 
 -- each instance has a lawful history

@@ -5,5 +5,8 @@ pub mod WordLaws
 pub mod AuditLaws
 pub mod FindingLaws
 pub mod FoundLaws
+pub mod CallLaws
+pub mod JoinLaws
+pub mod RecoveryLaws
 pub use Rattle.lus_live_instance.proofs as LiveProofs
 pub use Rattle.lus_lawful.proofs as LawfulProofs

@@ -117,6 +117,7 @@ IsCallWords (words.Entry i t) = ⊥
 IsCallWords words.Note = ⊥
 IsCallWords (words.Short i) = Unit {0}
 IsCallWords words.Word = Unit {0}
+IsCallWords words.Nameless = Unit {0}
 
 call_entry : (text : Text) (w : Words) → IsCallWords w → StandsBehind text w → behind_of text ≡ behind.Entry → ⊥
 call_entry text (words.Call i c k) call stands is = absurd (cc)
@@ -124,6 +125,7 @@ call_entry text (words.Entry i t) call stands is = absurd call
 call_entry text words.Note call stands is = absurd call
 call_entry text (words.Short i) call stands is = absurd (cc)
 call_entry text words.Word call stands is = absurd stands
+call_entry text words.Nameless call stands is = absurd stands
 
 call_note : (text : Text) (w : Words) → IsCallWords w → StandsBehind text w → behind_of text ≡ behind.Note → ⊥
 call_note text (words.Call i c k) call stands is = absurd (cc)
@@ -131,6 +133,7 @@ call_note text (words.Entry i t) call stands is = absurd call
 call_note text words.Note call stands is = absurd call
 call_note text (words.Short i) call stands is = absurd (cc)
 call_note text words.Word call stands is = absurd stands
+call_note text words.Nameless call stands is = absurd stands
 
 pub call_no_line : (names : Names) (log : List Logged) (text line : Text) (w : Words) → IsCallWords w → ReadsBehind text w → line ≡ text ++ 10 ∷ []
     → (g : LogLine) → IsReadableLine names log g → line ≡ line_in names log g → ⊥

@@ -1,5 +1,5 @@
 -- Logs that are audited: what is found of their lines, and reported.
-use Rattle.std.specs.Prelude.{◌≡◌, ◌≢◌, ◌+◌, ◌++◌, ℕ, Bool, true, false, List, [], ◌∷◌, length, Option, Some, codes, IsUtf8, ⊤}
+use Rattle.std.specs.Prelude.{◌≡◌, ◌≢◌, ◌+◌, ◌<◌, ◌++◌, ℕ, Bool, true, false, List, [], ◌∷◌, length, Option, Some, codes, IsUtf8, ⊤}
 use Rattle.std.specs.Fmt.{decimal}
 use Rattle.std.specs.List.{All}
 use Rattle.lus_values.specs.Names.{Names, Text}
@@ -170,6 +170,7 @@ IsFound founds.Wrong p f log line right new =
     × AsksLogged (names_of p) log line l × (line ≢ right) × Keeps p f (log ++ l ∷ []) new
 IsFound founds.NoLine p f log line right new =
     (g : LogLine) → IsReadableLine (names_of p) log g → line ≡ line_in (names_of p) log g → ⊥
+IsFound founds.Cut p f log line right new = ⊥
 IsFound founds.Over p f log line right new = ⊥
 
 -- what is left behind a log is neither its end nor begins with a line that can be read back
@@ -189,4 +190,6 @@ FindsLine founds.Right p f log left later line right new = IsLineLeft founds.Rig
 FindsLine founds.Noted p f log left later line right new = IsLineLeft founds.Noted p f log left later line right new
 FindsLine founds.Wrong p f log left later line right new = IsLineLeft founds.Wrong p f log left later line right new
 FindsLine founds.NoLine p f log left later line right new = IsNoneLeft (names_of p) log left
-FindsLine founds.Over p f log left later line right new = IsLast [] left later
+FindsLine founds.Cut p f log left later line right new =
+    IsNoneLeft (names_of p) log left × IsLast line left later × (0 < length line) × Keeps p f log new
+FindsLine founds.Over p f log left later line right new = IsLast [] left later × Keeps p f log new

@@ -1,7 +1,8 @@
 -- Logs: the entries of many instances, each with the name of its instance in front of its journal's line.
-use Rattle.std.specs.Prelude.{◌≢◌, ◌+◌, ◌<◌, ◌++◌, ◌==◌, ℕ, Bool, List, [], ◌∷◌, length, map, filter, get_or, codes, if◌then◌else◌}
-use Rattle.std.specs.Char.{is_ascii_digit}
-use Rattle.std.specs.Str.{bytes_eq}
+use Rattle.std.specs.Prelude.{◌≢◌, ◌+◌, ◌<◌, ◌++◌, ◌==◌, ◌&&◌, ℕ, Bool, not, List, [], ◌∷◌, length, map, filter, get_or, codes, nat_le, nat_lt, if◌then◌else◌}
+use Rattle.std.specs.Char.{is_ascii_digit, is_control}
+use Rattle.std.specs.List.{list_all}
+use Rattle.std.specs.Str.{bytes_eq, chars}
 use Rattle.lus_values.specs.Names.{Names, Text}
 use Rattle.lus_requests.specs.declared.request.Entry.{Entry}
 use Rattle.lus_replay.specs.Replays.{Said, entry_said, said_line}
@@ -31,6 +32,22 @@ logged_line names log l = l.instance ++ codes " " ++ said_line names (next_of l.
 -- no blank is in it
 abbrev pub IsWord : Text → Type 0
 IsWord w = (i : ℕ) → i < length w → get_or w i 0 ≢ 32
+
+-- the most bytes of a name in a call
+abbrev pub most_name_bytes : ℕ
+most_name_bytes = 64
+
+-- no blank is in a word
+abbrev pub is_whole : Text → Bool
+is_whole w = list_all (λ b. not (b == 32)) w
+
+-- nor a control character
+abbrev pub is_shown : Text → Bool
+is_shown w = list_all (λ c. not (is_control c)) (chars w)
+
+-- a word that a call may give an instance or a caller as its name
+abbrev pub is_named : Text → Bool
+is_named w = nat_lt 0 (length w) && (nat_le (length w) most_name_bytes && (is_whole w && is_shown w))
 
 -- what stands behind an instance's name, by its first byte: an entry begins with a digit, a note with `#`
 abbrev pub behind_of : Text → Behind

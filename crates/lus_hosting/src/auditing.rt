@@ -47,6 +47,8 @@ pub(crate) enum Found {
     Wrong,
     /// No line of a log.
     NoLine,
+    /// What stands before the end in place of a line.
+    Cut,
     /// The end.
     Over,
 }
@@ -124,11 +126,12 @@ fn audit_line(
         Words::Call(_, _, _) => Ok(Found::NoLine),
         Words::Short(_) => Ok(Found::NoLine),
         Words::Word => Ok(Found::NoLine),
+        Words::Nameless => Ok(Found::NoLine),
     }
 }
 
 /// Reads the next line, and says what it is.
-fn read_found<S: Source>(
+pub(crate) fn read_found<S: Source>(
     host: Host<'_>,
     instances: &mut Instances,
     source: &mut S,
@@ -143,7 +146,7 @@ fn read_found<S: Source>(
 {
     match read_whole_line(source, line)? {
         Whole::Line => audit_line(host, instances, line, right),
-        Whole::Unfinished => Ok(Found::NoLine),
+        Whole::Unfinished => Ok(Found::Cut),
         Whole::End => Ok(Found::Over),
     }
 }
@@ -212,6 +215,7 @@ pub fn audit_log<S: Source>(
             Found::Noted => {}
             Found::Wrong => return Ok(wrong_report(alloc, lines + 1, line, &right)?),
             Found::NoLine => return Err(AuditError::Line(lines + 1)),
+            Found::Cut => return Err(AuditError::Line(lines + 1)),
             Found::Over => return Ok(lawful_report(alloc, entries)?),
         }
     }

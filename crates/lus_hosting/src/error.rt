@@ -1,7 +1,9 @@
 //! Why a host stopped.
 
-use lus_lines::LineError;
-use lus_values::Memory as OfMemory;
+ghost use Rattle.std.specs.Prelude.{◌≡◌};
+ghost use Rattle.lus_hosting.specs.Turns.{stop_of};
+
+use lus_play::PlayError;
 use thiserror::Error;
 
 /// Why a host stopped before the end of its lines, which are counted from 1.
@@ -21,17 +23,15 @@ pub enum HostError {
     Full,
 }
 
-impl From<LineError> for HostError {
-    fn from(error: LineError) -> HostError {
-        match error {
-            LineError::Read => HostError::Read,
-            LineError::Memory => HostError::Memory,
-        }
-    }
-}
+impl From<PlayError> for HostError {
+    ghost from_gives = { λ p e. e ≡ stop_of p };
 
-impl From<OfMemory> for HostError {
-    fn from(_error: OfMemory) -> HostError {
-        HostError::Memory
+    fn from(error: PlayError) -> HostError {
+        match error {
+            PlayError::Read => HostError::Read,
+            PlayError::Write => HostError::Write,
+            PlayError::Memory => HostError::Memory,
+            PlayError::Full => HostError::Full,
+        }
     }
 }

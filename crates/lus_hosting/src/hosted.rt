@@ -6,10 +6,8 @@ ghost use Rattle.lus_program.specs.Programs.{Program as PlainProgram};
 ghost use Rattle.lus_replay.specs.Replays.{IsJudged};
 ghost use Rattle.lus_hosting.specs.Hosts.{HasCalled};
 
-use crate::error::HostError;
-use crate::telling::Tells;
 use lus_live_instance::Instance;
-use lus_play::Reacts;
+use lus_play::{PlayError, Reacts};
 use lus_replay::{Verdict, replay_line};
 use lus_requests::{Entry, Request};
 use lus_values::{Memory, Names};
@@ -32,19 +30,12 @@ fn line_of(alloc: Global, text: &str) -> Result<Vec<u8>, Memory>
     Ok(line)
 }
 
-/// Makes the call of a caller, and appends to a text what is told of its entry.
-pub(crate) fn call<T: Tells>(
-    hosted: &mut Hosted,
-    teller: &T,
-    instance: &str,
-    caller: &str,
-    request: Request,
-    text: &mut String,
-) -> Result<(), HostError>
-    ensures called { OnOk result (HasCalled (T.spelling teller.now) instance.now caller.now request hosted.old hosted.new (string_bytes text.new)) }
+/// Makes a call: its entry, and which that is.
+pub(crate) fn call(hosted: &mut Hosted, request: Request) -> Result<(u64, Entry), PlayError>
+    ensures called { IfOk result (λ r. HasCalled request hosted.old hosted.new r.0 r.1) }
     ensures live { (p : PlainProgram) (f : ℕ) → IsLive p f hosted.old.instance.reactor → IsLive p f hosted.new.instance.reactor }
 {
-    let number = hosted.entries.checked_add(1).ok_or(HostError::Full)?;
+    let number = hosted.entries.checked_add(1).ok_or(PlayError::Full)?;
     let reply = hosted.instance.call(&request)?;
     hosted.entries = number;
     let entry = Entry {
@@ -52,9 +43,7 @@ pub(crate) fn call<T: Tells>(
         request,
         reply,
     };
-    text.clear();
-    teller.tell(text, instance, caller, number, &entry)?;
-    Ok(())
+    Ok((number, entry))
 }
 
 /// Replays the next entry, which is counted even where it isn't right: nothing is asked of the instance behind that.
@@ -64,13 +53,13 @@ pub(crate) fn replay(
     names: &Names,
     text: &str,
     right: &mut String,
-) -> Result<Verdict, HostError>
+) -> Result<Verdict, PlayError>
     ensures judged { IfOk result (λ v. IsJudged v names.now (hosted.old.entries + 1) (text.now ++ 10 ∷ []) (string_bytes right.new)
         hosted.old.instance.reactor.history hosted.new.instance.reactor.history) }
     ensures counted { OnOk result (hosted.new.entries ≡ hosted.old.entries + 1) }
     ensures live { (p : PlainProgram) (f : ℕ) → IsLive p f hosted.old.instance.reactor → IsLive p f hosted.new.instance.reactor }
 {
-    let number = hosted.entries.checked_add(1).ok_or(HostError::Full)?;
+    let number = hosted.entries.checked_add(1).ok_or(PlayError::Full)?;
     let line = line_of(alloc, text)?;
     hosted.entries = number;
     let verdict = replay_line(alloc, &mut hosted.instance, names, number, &line, right)?;

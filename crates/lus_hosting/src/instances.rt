@@ -8,14 +8,13 @@ ghost use Rattle.lus_live_instance.specs.MachineSpecs.Constructors.{names_of};
 ghost use Rattle.lus_hosting.specs.Hosts.{HasCalledOn, HasReplayedOn, Keeps};
 ghost use Rattle.lus_hosting.specs.Logs.{Logged};
 
-use crate::error::HostError;
 use crate::host::Host;
 use crate::hosted::{Hosted, call, replay};
-use crate::telling::Tells;
 use indexmap::IndexMap;
 use lus_live_instance::new_instance;
+use lus_play::PlayError;
 use lus_replay::Verdict;
-use lus_requests::Request;
+use lus_requests::{Entry, Request};
 use lus_values::Memory;
 use std::collections::hash_map::RandomState;
 
@@ -44,25 +43,21 @@ fn open(host: Host<'_>, instances: &mut Instances, name: &str) -> Result<(), Mem
     Ok(())
 }
 
-/// Makes a caller's call to the instance of a name, and puts into a text what is told of its entry.
-pub(crate) fn call_on<T: Tells>(
+/// Makes a call to the instance of a name: its entry, and which that is of the instance.
+pub(crate) fn call_on(
     host: Host<'_>,
     instances: &mut Instances,
-    teller: &T,
     name: &str,
-    caller: &str,
     request: Request,
-    text: &mut String,
-) -> Result<(), HostError>
+) -> Result<(u64, Entry), PlayError>
     requires { host.node.0 < length (program_of (arc_value host.program.now)).nodes }
     ensures { (log : List Logged) → Keeps (program_of (arc_value host.entry.program.now)) host.entry.node.0 log instances.old
-        → OnOk result (HasCalledOn (program_of (arc_value host.entry.program.now)) host.entry.node.0 (T.spelling teller.now) log
-        name.now caller.now request (string_bytes text.new) instances.new) }
+        → IfOk result (λ r. HasCalledOn (program_of (arc_value host.entry.program.now)) host.entry.node.0 log name.now request r.0 r.1 instances.new) }
 {
     open(host, instances, name)?;
     match instances.by_name.get_mut(name) {
-        Some(hosted) => call(hosted, teller, name, caller, request, text),
-        None => Err(HostError::Memory),
+        Some(hosted) => call(hosted, request),
+        None => Err(PlayError::Memory),
     }
 }
 
@@ -73,7 +68,7 @@ pub(crate) fn replay_on(
     name: &str,
     entry: &str,
     right: &mut String,
-) -> Result<Verdict, HostError>
+) -> Result<Verdict, PlayError>
     requires { host.node.0 < length (program_of (arc_value host.program.now)).nodes }
     ensures { (log : List Logged) → Keeps (program_of (arc_value host.entry.program.now)) host.entry.node.0 log instances.old
         → IfOk result (λ v. HasReplayedOn (program_of (arc_value host.entry.program.now)) host.entry.node.0 log name.now (entry.now ++ 10 ∷ [])
@@ -82,6 +77,6 @@ pub(crate) fn replay_on(
     open(host, instances, name)?;
     match instances.by_name.get_mut(name) {
         Some(hosted) => replay(hosted, host.alloc, host.program.names(), entry, right),
-        None => Err(HostError::Memory),
+        None => Err(PlayError::Memory),
     }
 }

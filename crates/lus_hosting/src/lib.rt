@@ -1,4 +1,5 @@
-//! Many instances of a node in one process, which lines call by name: each call is answered by its entry, and entries are replayed.
+//! Many instances of a node in one process, which lines call by name: each call is answered by its entry, and entries are replayed, of a
+//! log that is gone on in or among the calls.
 #![tactic(auto)]
 
 mod auditing;
@@ -7,13 +8,17 @@ mod host;
 mod hosted;
 mod hosting;
 mod instances;
+mod laws;
+mod recovering;
 mod telling;
 mod turns;
 mod words;
 
 pub use auditing::{LogReport, audit_log};
 pub use error::HostError;
-pub use hosting::{host_log, host_many};
+pub use hosting::{host_behind, host_log, host_many};
+pub use laws::logs_are_joined;
 pub use lus_lawful;
 pub use lus_live_instance;
-pub use telling::Tells;
+pub use recovering::{Recovered, recover_log};
+pub use telling::{LogLines, Tells};

@@ -1,7 +1,7 @@
 //! How what becomes of a line is told.
 
 ghost use Rattle.std.specs.Prelude.{◌≡◌, ◌++◌, OnOk, codes, string_bytes};
-ghost use Rattle.lus_hosting.specs.Spellings.{log_spelling};
+ghost use Rattle.lus_hosting.specs.Spellings.{log_spelling, no_spelling};
 
 use lus_devices::push_line;
 use lus_requests::Entry;
@@ -40,11 +40,40 @@ pub trait Tells {
             ≡ string_bytes text.old ++ (spelling self.now).denies instance.now caller.now reason.now) };
 }
 
+/// Tells nothing.
+#[derive(Drop)]
+pub(crate) struct Silent;
+
+impl Tells for Silent {
+    ghost spelling = { λ _. no_spelling };
+
+    fn tell(
+        &self,
+        _text: &mut String,
+        _instance: &str,
+        _caller: &str,
+        _number: u64,
+        _entry: &Entry,
+    ) -> Result<(), Memory> {
+        Ok(())
+    }
+
+    fn deny(
+        &self,
+        _text: &mut String,
+        _instance: &str,
+        _caller: &str,
+        _reason: &str,
+    ) -> Result<(), Memory> {
+        Ok(())
+    }
+}
+
 /// Tells it as the lines of a log.
 #[derive(Drop)]
-pub(crate) struct LogLines<'p> {
-    pub(crate) alloc: Global,
-    pub(crate) names: &'p Names,
+pub struct LogLines<'p> {
+    pub alloc: Global,
+    pub names: &'p Names,
 }
 
 impl Tells for LogLines<'_> {

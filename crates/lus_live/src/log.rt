@@ -16,4 +16,9 @@ pub trait Log: Sink {
         ensures opened { OnOk result (opens self.old name.now self.new) }
         ensures written { Self.written self.new ≡ Self.written self.old }
         ensures failures { Self.failures self.new ≡ Self.failures self.old };
+
+    /// Takes away what the file has behind so many bytes.
+    fn cut(&mut self, bytes: u64) -> Result<(), Failure>
+        ensures written { Self.written self.new ≡ Self.written self.old }
+        ensures failures { Self.failures self.new ≡ Self.failures self.old };
 }

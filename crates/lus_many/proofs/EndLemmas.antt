@@ -1,32 +1,139 @@
 -- How a host of many instances ends, by how its parts do.
-use Rattle.std.proofs.Common.{ℕ, Bool, Option, Ok, Err, IfOk, OnErr}
+use Rattle.std.proofs.Common.{◌≡◌, ◌∙◌, ℕ, Bool, inl, inr, refl, subst, sym, List, [], Option, Some, None, Result, Ok, Err, IfErr, IfOk, OnErr}
 use Rattle.lus_program.specs.Programs.{Program}
 use Rattle.lus_devices.specs.Devices.{Bytes}
-use Rattle.lus_devices.specs.Folders.{Known}
-use Rattle.lus_hosting.specs.Turns.{HasHosted, HasHostedSome}
-use Rattle.lus_cli.specs.Changes.{Change}
+use Rattle.lus_devices.specs.Folders.{Holds, Known}
+use Rattle.lus_hosting.specs.LiveSpecs.MachineSpecs.Constructors.{names_of}
+use Rattle.lus_hosting.specs.Logs.{Logged}
+use Rattle.lus_hosting.specs.Recoveries.{HasRecovered}
+use Rattle.lus_hosting.specs.Recoveries.{IsRecovered as IsReplayed}
+use Rattle.lus_hosting.specs.Spellings.{Spelling, log_spelling, no_spelling}
+use Rattle.lus_hosting.specs.Turns.{HasHosted, HasHostedSome, Reads, StopsBy, calls, everything}
+use Rattle.lus_hosting.specs.declared.recovering.Recovered.{Recovered}
+use Rattle.lus_cli.specs.Changes.{Change, change}
 use Rattle.lus_cli.specs.CommandLine.{Text}
-use Rattle.lus_cli.specs.Programs.{IsProgramFault}
+use Rattle.lus_cli.specs.MachineSpecs.Formals.{node_named}
+use Rattle.lus_cli.specs.Programs.{IsOfFile, IsProgramFault}
 use Rattle.lus_cli.specs.declared.fault.Fault.{Fault}
 use Rattle.lus_cli.specs.declared.fault.Fault.TheVariants as faults
-use Rattle.lus_many.specs.Ends.{HostFails, Hosted, Ran, spelling_of}
+use Rattle.lus_cli.proofs.ProgramLemmas.{file_then}
+use Rattle.lus_live.specs.Ends.{IsRecoveryFault}
+use Rattle.lus_many.specs.CommandLine.{Asked, Session}
+use Rattle.lus_many.specs.Ends.{AsksSession, GoesOn, HasGoneOn, HasRunIn, HostFails, Hosted, HostedOn, IsRecovered, IsSessionFault, LogStays, Ran, StaysIn, TaskEnds, spelling_of}
 
 -- what was hosted, whether to the end or not
 pub hosted : (is_json : Bool) (p : Program) (f : ℕ) (left end : Option Bytes) (ran : Ran) (output : Change)
-    → IfOk ran (λ score. HasHosted p f (spelling_of is_json p f) left end output.old output.new score)
-    → OnErr ran (HasHostedSome p f (spelling_of is_json p f) left output.old output.new)
+    → IfOk ran (λ score. HasHosted everything p f no_spelling (spelling_of is_json p f) [] left end None None output.old output.new score)
+    → OnErr ran (HasHostedSome everything p f no_spelling (spelling_of is_json p f) [] left None None output.old output.new)
     → Hosted is_json p f left end ran output
 hosted is_json p f left end (Ok score) output all begun = all
 hosted is_json p f left end (Err e) output all begun = begun
 
+-- likewise, behind what a log has
+hosted_on : (reads : Reads) (j : Spelling) (is_json : Bool) (p : Program) (f : ℕ) (before : List Logged) (left end : Option Bytes) (log : Change) (ran : Ran)
+    (output : Change)
+    → IfOk ran (λ score. HasHosted reads p f j (spelling_of is_json p f) before left end log.old log.new output.old output.new score)
+    → OnErr ran (HasHostedSome reads p f j (spelling_of is_json p f) before left log.old log.new output.old output.new)
+    → IfErr ran (StopsBy reads) → HostedOn reads j is_json p f before left end log ran output
+hosted_on reads j is_json p f before left end log (Ok score) output all begun lasts = all
+hosted_on reads j is_json p f before left end log (Err e) output all begun lasts = (begun, lasts)
+
+-- what was recovered of a file that was opened is recovered of its bytes
+pub recovered_file : (p : Program) (f : ℕ) (known : Known) (left ahead : Option Bytes) (r : Recovered) → Holds known left → ahead ≡ left
+    → IsReplayed p f ahead r → IsRecovered known p f r
+recovered_file p f known left ahead r holds same replayed =
+    let has = replayed.1 in (
+      replayed.0,
+      file_then known (λ bytes. left ≡ Some bytes) (λ bytes. HasRecovered p f (Some bytes) replayed.0 r)
+          (λ bytes is. subst (λ o. HasRecovered p f o replayed.0 r) (same ∙ is) has) holds,
+      has.keeps,
+    )
+
+-- where the log's device was this before it was opened and its end was cut
+pub gone_on : (p : Program) (f : ℕ) (known : Known) (is_opened : Type 0) (is_json : Bool) (session : Session) (left end : Option Bytes) (log : Change)
+    (l : Option Bytes) (ran : Ran) (output : Change) (r : Recovered) → l ≡ log.old → (recovered : IsRecovered known p f r) → is_opened
+    → IfOk ran (λ score. HasHosted (calls session.caller) p f (log_spelling (names_of p)) (spelling_of is_json p f) recovered.0 left end l log.new output.old output.new score)
+    → OnErr ran (HasHostedSome (calls session.caller) p f (log_spelling (names_of p)) (spelling_of is_json p f) recovered.0 left l log.new output.old output.new)
+    → IfErr ran (StopsBy (calls session.caller)) → HasGoneOn known is_opened is_json session p f left end log ran output
+gone_on p f known is_opened is_json session left end log l ran output r same recovered opened all begun lasts = record {
+  recovered = r;
+  before = recovered.0;
+  replayed = recovered.1;
+  opened = opened;
+  hosted = hosted_on (calls session.caller) (log_spelling (names_of p)) is_json p f recovered.0 left end log ran output
+      (subst (λ k. IfOk ran (λ score. HasHosted (calls session.caller) p f (log_spelling (names_of p)) (spelling_of is_json p f) recovered.0 left end k log.new output.old output.new score)) same all)
+      (subst (λ k. OnErr ran (HasHostedSome (calls session.caller) p f (log_spelling (names_of p)) (spelling_of is_json p f) recovered.0 left k log.new output.old output.new)) same begun)
+      lasts;
+}
+
 -- a fault of the program
-pub program_fails : (read_fails : Known → Type 0) (file : Known) (name : Text) (f : Fault) → IsProgramFault read_fails file f → HostFails read_fails file name f
-program_fails read_fails file name faults.File lost = lost
-program_fails read_fails file name (faults.Program e) refused = refused
-program_fails read_fails file name faults.Memory memory = tt
-program_fails read_fails file name (faults.Journal n) never = absurd never
-program_fails read_fails file name (faults.Signal n) never = absurd never
-program_fails read_fails file name (faults.Scripts e) never = absurd never
-program_fails read_fails file name faults.Words never = absurd never
-program_fails read_fails file name faults.Output never = absurd never
-program_fails read_fails file name faults.Start never = absurd never
+pub program_fails : (read_fails : Known → Type 0) (file : Known) (name : Text) (session : Option Session) (f : Fault) → IsProgramFault read_fails file f
+    → HostFails read_fails file name session f
+program_fails read_fails file name session faults.File lost = inl lost
+program_fails read_fails file name session (faults.Program e) refused = refused
+program_fails read_fails file name session faults.Memory memory = tt
+program_fails read_fails file name session (faults.Journal n) never = absurd never
+program_fails read_fails file name session (faults.Signal n) never = absurd never
+program_fails read_fails file name session (faults.Scripts e) never = absurd never
+program_fails read_fails file name session faults.Words never = absurd never
+program_fails read_fails file name session faults.Output never = absurd never
+program_fails read_fails file name session faults.Start never = absurd never
+
+-- a fault of a log, of a node that the program has
+log_fails : (read_fails : Known → Type 0) (file : Known) (name : Text) (session : Option Session) (f : Fault) → AsksSession file name session → IsRecoveryFault f
+    → HostFails read_fails file name session f
+log_fails read_fails file name session faults.File asks is = inr asks
+log_fails read_fails file name session (faults.Program e) asks never = absurd never
+log_fails read_fails file name session faults.Memory asks is = tt
+log_fails read_fails file name session (faults.Journal n) asks is = asks
+log_fails read_fails file name session (faults.Signal n) asks never = absurd never
+log_fails read_fails file name session (faults.Scripts e) asks never = absurd never
+log_fails read_fails file name session faults.Words asks never = absurd never
+log_fails read_fails file name session faults.Output asks never = absurd never
+log_fails read_fails file name session faults.Start asks never = absurd never
+
+session_fails : (read_fails : Known → Type 0) (file : Known) (name : Text) (session : Option Session) (f : Fault) → AsksSession file name session
+    → IsSessionFault f → HostFails read_fails file name session f
+session_fails read_fails file name session f asks fault =
+    elim fault [
+      | inl is ↦ log_fails read_fails file name session f asks is
+      | inr is ↦ subst (HostFails read_fails file name session) (sym is) asks
+    ]
+
+module _ (read_fails : Known → Type 0) (known : Text → Known) (opens : Text → Type 0) (left end : Option Bytes) (log : Change) (asked : Asked) (p : Program)
+    (node : ℕ) (output : Change) (accepted : IsOfFile (known asked.program) p) (named : node_named p asked.node ≡ Some node) where
+  -- with a log or without one
+  pub task_ran : (session : Option Session) (ran : Ran) → asked.session ≡ session
+      → HasRunIn known opens asked.is_json session p node left end log ran output → TaskEnds read_fails known opens left end log asked (Ok ran) output
+  task_ran session ran is hosted = record {
+    program = p;
+    accepted = accepted;
+    node = node;
+    named = named;
+    hosted = subst (λ k. HasRunIn known opens asked.is_json k p node left end log ran output) (sym is) hosted;
+  }
+
+  pub task_goes : (session : Session) (result : Result Ran Fault) → asked.session ≡ Some session
+      → GoesOn (known session.log) (opens session.log) asked.is_json session p node left end log result output
+      → TaskEnds read_fails known opens left end log asked result output
+  task_goes session (Ok ran) is goes = task_ran (Some session) ran is goes
+  task_goes session (Err f) is goes = (
+    session_fails read_fails (known asked.program) asked.node asked.session f
+        (subst (AsksSession (known asked.program) asked.node) (sym is) (p, node, accepted, named)) goes.0,
+    goes.1,
+    goes.2,
+    goes.3,
+  )
+
+-- a log that is left alone
+pub still_stays : (asked : Option Asked) (w : Option Bytes) (n : Option ℕ) → LogStays asked (change w w n n)
+still_stays None w n = (refl, refl)
+still_stays (Some asked) w n = go asked.session
+  where
+    go : (session : Option Session) → StaysIn session (change w w n n)
+    go None = (refl, refl)
+    go (Some session) = tt
+
+-- one that a session goes on in
+pub session_stays : (o : Option Session) (session : Session) (log : Change) → o ≡ Some session → StaysIn o log
+session_stays o session log is = subst (λ k. StaysIn k log) (sym is) tt

@@ -1,35 +1,62 @@
 -- What the words of the command line ask for, by the meaning that clap's own specification gives to the command.
-use Rattle.std.specs.Prelude.{Bool, List, Option, Some, None, codes}
+use Rattle.std.specs.Prelude.{Bool, List, Option, Some, None, option_map, codes, if◌then◌else◌}
 use Rattle.clap.specs.Words.{App, Row, first_of}
-use Rattle.lus_cli.specs.CommandLine.{Text, asked_of, bare, is_set, with_flag, with_required}
+use Rattle.lus_scripts.specs.Forms.{is_name}
+use Rattle.lus_cli.specs.CommandLine.{Text, asked_of, bare, is_set, with_flag, with_optional, with_required, with_value}
+use Rattle.lus_many.specs.declared.words.Session.{Session as StoredSession}
 use Rattle.lus_many.specs.declared.words.Task.{Task}
 
--- the flags `--many` and `--json`
+-- the flags `--many` and `--json`, and an option `--caller NAME`
 abbrev pub flagged : App
-flagged = with_flag (codes "json") (with_flag (codes "many") (bare (codes "lus_live")))
+flagged = with_value (codes "caller") (with_flag (codes "json") (with_flag (codes "many") (bare (codes "lus_live"))))
 
--- the flags, a required PROGRAM and a required NODE
+-- these, a required PROGRAM, a required NODE, and perhaps a LOG
 abbrev pub the_command : App
-the_command = with_required (codes "NODE") (with_required (codes "PROGRAM") flagged)
+the_command = with_optional (codes "LOG") (with_required (codes "NODE") (with_required (codes "PROGRAM") flagged))
 
--- a node of a program, and whether answers are objects of JSON
+-- a log that is gone on in, by the name of its file, and perhaps the name of the one caller
+pub record Session : Type 0 where
+  pub log : Text
+  pub caller : Option Text
+
+-- a node of a program, whether answers are objects of JSON, and perhaps a log that is gone on in
 pub record Asked : Type 0 where
   pub program : Text
   pub node : Text
   pub is_json : Bool
+  pub session : Option Session
 
-abbrev pub chosen : Bool → Option Text → Option Text → Option Asked
-chosen is_json None _ = None
-chosen is_json (Some program) None = None
-chosen is_json (Some program) (Some node) = Some (record { program = program; node = node; is_json = is_json })
+-- a caller is named only beside a log
+abbrev pub session_of : Option Text → Option Text → Option (Option Session)
+session_of None None = Some None
+session_of None (Some caller) = None
+session_of (Some log) None = Some (Some (record { log = log; caller = None }))
+session_of (Some log) (Some caller) = if is_name caller then Some (Some (record { log = log; caller = Some caller })) else None
+
+abbrev pub with_session : Text → Text → Bool → Option Session → Asked
+with_session program node is_json session = record { program = program; node = node; is_json = is_json; session = session }
+
+abbrev pub chosen : Bool → Option (Option Session) → Option Text → Option Text → Option Asked
+chosen is_json session None _ = None
+chosen is_json session (Some program) None = None
+chosen is_json session (Some program) (Some node) = option_map (with_session program node is_json) session
 
 abbrev pub said : List Row → Option Asked
-said m = chosen (is_set (codes "json") m) (first_of (codes "PROGRAM") m) (first_of (codes "NODE") m)
+said m =
+    chosen (is_set (codes "json") m) (session_of (first_of (codes "LOG") m) (first_of (codes "caller") m)) (first_of (codes "PROGRAM") m)
+    (first_of (codes "NODE") m)
 
 -- what the words after the program's own name ask for, where they are well formed
 unfoldable pub asked : List Text → Option Asked
 asked = asked_of the_command said
 
+-- a log that is gone on in as plain data
+abbrev pub session_seen : StoredSession → Session
+session_seen k = record { log = k.log.now; caller = option_map (λ t. t.now) k.caller }
+
+abbrev pub sessions_seen : Option StoredSession → Option Session
+sessions_seen session = option_map session_seen session
+
 -- a task as plain data
 abbrev pub task_seen : Task → Asked
-task_seen t = record { program = t.program.now; node = t.node.now; is_json = t.is_json }
+task_seen t = record { program = t.program.now; node = t.node.now; is_json = t.is_json; session = sessions_seen t.session }

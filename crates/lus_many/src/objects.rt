@@ -1,10 +1,11 @@
 //! Hosting many instances whose answers are objects of JSON.
 
-ghost use Rattle.std.specs.Prelude.{◌≡◌, ◌++◌, ◌<◌, IfOk, OnErr, OnOk, codes, length, map, string_bytes};
+ghost use Rattle.std.specs.Prelude.{◌≡◌, ◌++◌, ◌<◌, [], None, IfOk, OnErr, OnOk, codes, length, map, string_bytes};
 ghost use Rattle.std.specs.Arc.{arc_value};
 ghost use Rattle.lus_program.specs.View.{program_seen, variable_of};
 ghost use Rattle.lus_cli.specs.CodeSpecs.Codes.{program_of};
-ghost use Rattle.lus_hosting.specs.Turns.{HasHosted, HasHostedSome};
+ghost use Rattle.lus_hosting.specs.Spellings.{no_spelling};
+ghost use Rattle.lus_hosting.specs.Turns.{HasHosted, HasHostedSome, everything};
 ghost use Rattle.lus_many.specs.Objects.{denial_json, json_spelling, members_of, names_json, node_spelling, quoted};
 
 use lus_devices::{Sink, Source};
@@ -84,11 +85,11 @@ fn push_denial(
 
 /// Tells it as objects of JSON, each on a line of its own.
 #[derive(Drop)]
-struct JsonLines<'p> {
-    alloc: Global,
-    program: &'p PlainProgram,
-    names: &'p Names,
-    outputs: &'p [Variable],
+pub(crate) struct JsonLines<'p> {
+    pub(crate) alloc: Global,
+    pub(crate) program: &'p PlainProgram,
+    pub(crate) names: &'p Names,
+    pub(crate) outputs: &'p [Variable],
 }
 
 impl Tells for JsonLines<'_> {
@@ -128,6 +129,27 @@ impl Tells for JsonLines<'_> {
     }
 }
 
+/// Tells what becomes of lines of instances of a node as objects of JSON.
+pub(crate) fn json_lines<'p>(
+    alloc: Global,
+    program: &'p Arc<Program>,
+    node: NodeId,
+) -> JsonLines<'p>
+    requires { node.0 < length (program_of (arc_value program.now)).nodes }
+    ensures { json_spelling (program_seen result.program.now) result.names.now (map variable_of result.outputs.now)
+        ≡ node_spelling (program_of (arc_value program.now)) node.0 }
+{
+    let source = program.source();
+    let names = program.names();
+    let outputs = program.outputs(node);
+    JsonLines {
+        alloc,
+        program: source,
+        names,
+        outputs,
+    }
+}
+
 /// Hosts instances whose answers are objects of JSON: of an entry the names of the instance and the caller, its number and the members of
 /// its reply, and of a line that is no call the names and why. Its input may have entries as a log has them, and none of these objects.
 pub(crate) fn host_json<S: Source, O: Sink>(
@@ -141,22 +163,14 @@ pub(crate) fn host_json<S: Source, O: Sink>(
     right: &mut String,
 ) -> Result<Score, HostError>
     requires { node.0 < length (program_of (arc_value program.now)).nodes }
-    ensures all { IfOk result (λ score. HasHosted (program_of (arc_value program.now)) node.0
-        (node_spelling (program_of (arc_value program.now)) node.0)
-        (S.left input.old) (S.left input.new) (O.written output.old) (O.written output.new) score) }
-    ensures begun { OnErr result (HasHostedSome (program_of (arc_value program.now)) node.0
-        (node_spelling (program_of (arc_value program.now)) node.0)
-        (S.left input.old) (O.written output.old) (O.written output.new)) }
+    ensures all { IfOk result (λ score. HasHosted everything (program_of (arc_value program.now)) node.0 no_spelling
+        (node_spelling (program_of (arc_value program.now)) node.0) []
+        (S.left input.old) (S.left input.new) None None (O.written output.old) (O.written output.new) score) }
+    ensures begun { OnErr result (HasHostedSome everything (program_of (arc_value program.now)) node.0 no_spelling
+        (node_spelling (program_of (arc_value program.now)) node.0) []
+        (S.left input.old) None None (O.written output.old) (O.written output.new)) }
 {
-    let source = program.source();
-    let names = program.names();
-    let outputs = program.outputs(node);
-    let teller = JsonLines {
-        alloc,
-        program: source,
-        names,
-        outputs,
-    };
+    let teller = json_lines(alloc, program, node);
     host_many(
         alloc, program, node, keys, &teller, input, output, line, right,
     )

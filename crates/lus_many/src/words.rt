@@ -3,10 +3,14 @@
 ghost use Rattle.std.specs.Prelude.{◌≡◌, IfOk, Some, None, Err, map, option_map, string_bytes};
 ghost use Rattle.clap.specs.Words.{app_of, found_of, rows_of};
 ghost use Rattle.lus_cli.specs.declared.words.WordsError.TheVariants.{Mistaken};
-ghost use Rattle.lus_many.specs.CommandLine.{asked, said, task_seen, the_command};
+ghost use Rattle.lus_many.specs.CommandLine.{asked, session_of, sessions_seen, said, task_seen, the_command};
 
 use clap::{ArgMatches, Command};
-use lus_cli::{WordsError, bare, is_set, matches, value_of, with_flag, with_required};
+use lus_cli::{
+    WordsError, bare, is_set, matches, value_of, with_flag, with_optional, with_required,
+    with_value,
+};
+use lus_scripts::is_name;
 use std::alloc::{AllocError, Global};
 
 /// What the words ask for: instances of a node of a program, which is named by its file, and how it is answered.
@@ -16,6 +20,15 @@ pub struct Task<'a> {
     pub node: &'a str,
     /// Whether answers are objects of JSON, in place of a log's lines.
     pub is_json: bool,
+    /// The log that is gone on in, if one is.
+    pub session: Option<Session<'a>>,
+}
+
+/// A log that is gone on in, by the name of its file, and who calls, if it is one caller.
+#[derive(Clone, Copy)]
+pub struct Session<'a> {
+    pub log: &'a str,
+    pub caller: Option<&'a str>,
 }
 
 /// Whether many instances are asked for.
@@ -28,8 +41,10 @@ fn command<'a>(alloc: Global) -> Result<Command<'a>, AllocError>
 {
     let many = with_flag(alloc, bare(alloc, "lus_live"), "many")?;
     let json = with_flag(alloc, many, "json")?;
-    let program = with_required(alloc, json, "PROGRAM")?;
-    with_required(alloc, program, "NODE")
+    let caller = with_value(alloc, json, "caller")?;
+    let program = with_required(alloc, caller, "PROGRAM")?;
+    let node = with_required(alloc, program, "NODE")?;
+    with_optional(alloc, node, "LOG")
 }
 
 /// What the words after the program's own name ask for.
@@ -41,6 +56,19 @@ pub fn read_words<'a>(alloc: Global, words: &'a [String]) -> Result<Task<'a>, Wo
     choose(&matches).ok_or(WordsError::Mistaken)
 }
 
+/// The log of a file, and perhaps a caller, who is named only beside it.
+fn choose_session<'a>(log: Option<&'a str>, caller: Option<&'a str>) -> Option<Option<Session<'a>>>
+    ensures { option_map sessions_seen result ≡ session_of (option_map (λ t. t.now) log.entry) (option_map (λ t. t.now) caller.entry) }
+{
+    match (log, caller) {
+        (None, None) => Some(None),
+        (None, Some(_)) => None,
+        (Some(log), None) => Some(Some(Session { log, caller })),
+        (Some(log), Some(name)) if is_name(name) => Some(Some(Session { log, caller })),
+        (Some(_), Some(_)) => None,
+    }
+}
+
 /// A node is asked for with its program.
 fn choose<'a>(matches: &ArgMatches<'a>) -> Option<Task<'a>>
     ensures { option_map task_seen result ≡ said (rows_of (found_of matches.now)) }
@@ -48,9 +76,11 @@ fn choose<'a>(matches: &ArgMatches<'a>) -> Option<Task<'a>>
     let program = value_of(matches, "PROGRAM")?;
     let node = value_of(matches, "NODE")?;
     let is_json = is_set(matches, "json");
+    let session = choose_session(value_of(matches, "LOG"), value_of(matches, "caller"))?;
     Some(Task {
         program,
         node,
         is_json,
+        session,
     })
 }

@@ -25,16 +25,16 @@ returns-in-Entry-clause-found c = λ log keeps.
     (let p = program_of (arc_value c.args.host.program.now) in
     let feed = sym c.in-Ok.ensures.cases.0 ∙ strip_suffix_char 10 c.in-Ok.text.now (Some c.in-Some.text) c.in-Some.ensures.cases (omega arith) in
     let read = c.in-Entry.ensures.read in
-    let kind = c.in-Entry.ensures.behind c.in-Entry.instance.now c.in-Entry.entry.now read.1 read.0 in
-    let same = entry_line c.args.line.now c.in-Some.text.now c.in-Entry.instance.now c.in-Entry.entry.now feed read.0 in
+    let kind = c.in-Entry.ensures.behind c.in-Entry.instance.now c.in-Entry.entry.now read.2 read.1 in
+    let same = entry_line c.args.line.now c.in-Some.text.now c.in-Entry.instance.now c.in-Entry.entry.now feed read.1 in
     IfOk-weaker c.audit_entry.result _ _
     (λ found is. subst (λ t. IsFound found p c.args.host.node.0 log t (string_bytes c.audit_entry.new.right) c.audit_entry.new.instances) same is)
-    (c.audit_entry.ensures.found log read.1 kind keeps))
+    (c.audit_entry.ensures.found log read.2 kind keeps))
 
 pub returns-in-Note-clause-found : goal.returns-in-Note-clause-found
 returns-in-Note-clause-found c = λ log keeps.
     (let feed = sym c.in-Ok.ensures.cases.0 ∙ strip_suffix_char 10 c.in-Ok.text.now (Some c.in-Some.text) c.in-Some.ensures.cases (omega arith) in
-    (c.in-Some.text.now, feed, c.in-Note.ensures.read, keeps))
+    (c.in-Some.text.now, feed, c.in-Note.ensures.read.1, keeps))
 
 pub returns-in-Call-clause-found : goal.returns-in-Call-clause-found
 returns-in-Call-clause-found c = λ log keeps.
@@ -45,6 +45,11 @@ pub returns-in-Short-clause-found : goal.returns-in-Short-clause-found
 returns-in-Short-clause-found c = λ log keeps.
     (let feed = sym c.in-Ok.ensures.cases.0 ∙ strip_suffix_char 10 c.in-Ok.text.now (Some c.in-Some.text) c.in-Some.ensures.cases (omega arith) in
     call_no_line (names_of (program_of (arc_value c.args.host.program.now))) log c.in-Some.text.now c.args.line.now (words.Short c.in-Short.field-0) tt c.in-Short.ensures.behind feed)
+
+pub returns-in-Nameless-clause-found : goal.returns-in-Nameless-clause-found
+returns-in-Nameless-clause-found c = λ log keeps.
+    (let feed = sym c.in-Ok.ensures.cases.0 ∙ strip_suffix_char 10 c.in-Ok.text.now (Some c.in-Some.text) c.in-Some.ensures.cases (omega arith) in
+    call_no_line (names_of (program_of (arc_value c.args.host.program.now))) log c.in-Some.text.now c.args.line.now words.Nameless tt c.in-Nameless.ensures.behind feed)
 
 pub returns-in-Word-clause-found : goal.returns-in-Word-clause-found
 returns-in-Word-clause-found c = λ log keeps.

@@ -5,7 +5,7 @@ use Rattle.lus_live_instance.specs.MachineSpecs.Acceptance.{IsAccepted}
 use Rattle.lus_live_instance.specs.MachineSpecs.CodeSpecs.Codes.{program_of}
 use Rattle.lus_hosting.specs.Audits.{FindsInLog, HasAuditedLog, wrong_log_text}
 use Rattle.lus_hosting.proofs.AuditLaws.{audited_noted, audited_right, audited_start}
-use Rattle.lus_hosting.proofs.FindingLaws.{audited_all, audited_none, audited_wrong}
+use Rattle.lus_hosting.proofs.FindingLaws.{audited_all, audited_cut, audited_none, audited_wrong}
 use Rattle.lus_hosting.proofs.HostLaws.{none_named}
 use Rattle.lus_hosting.proofs.auditing.audit_log.Goals as goal
 use Rattle.lus_hosting.proofs.auditing.audit_log.Goals.{in-Noted, in-Right}
@@ -27,6 +27,12 @@ returns-in-NoLine-clause-blames g c =
     let accepted : IsAccepted (program_of (arc_value c.args.program.now)) = search rules in
     let audited = c.loop-lines.invariant in
     λ n is. audited_none _ accepted _ _ _ _ _ _ audited _ _ _ _ _ (c.in_ok-read_found.ensures.found _ audited.keeps) c.in-NoLine.is
+
+pub returns-in-Cut-clause-blames : goal.returns-in-Cut-clause-blames
+returns-in-Cut-clause-blames g c =
+    let accepted : IsAccepted (program_of (arc_value c.args.program.now)) = search rules in
+    let audited = c.loop-lines.invariant in
+    λ n is. audited_cut _ accepted _ _ _ _ _ _ audited _ _ _ _ _ (c.in_ok-read_found.ensures.found _ audited.keeps) c.in-Cut.is
 
 pub returns-in-Wrong-clause-sound : goal.returns-in-Wrong-clause-sound
 returns-in-Wrong-clause-sound g c =

@@ -21,8 +21,8 @@ pub returns-in-Unfinished-clause-found : goal.returns-in-Unfinished-clause-found
 returns-in-Unfinished-clause-found g c = λ log keeps.
     (let p = program_of (arc_value c.args.host.program.now) in
     let read = subst (λ r. HasReadWhole r c.read_whole_line.new.line.items (g.S.Source.left c.args.source.now) (g.S.Source.left c.read_whole_line.new.source)) c.in-Unfinished.is c.in_ok-read_whole_line.ensures in
-    tail_left p c.args.host.node.0 log (g.S.Source.left c.args.source.now) (g.S.Source.left c.read_whole_line.new.source) c.read_whole_line.new.line.items (string_bytes c.args.right.now) c.args.instances.now read.0 read.1)
+    tail_left p c.args.host.node.0 log (g.S.Source.left c.args.source.now) (g.S.Source.left c.read_whole_line.new.source) c.read_whole_line.new.line.items (string_bytes c.args.right.now) c.args.instances.now read.0 read.1 keeps)
 
 pub returns-in-End-clause-found : goal.returns-in-End-clause-found
 returns-in-End-clause-found g c = λ log keeps.
-    subst (λ r. HasReadWhole r c.read_whole_line.new.line.items (g.S.Source.left c.args.source.now) (g.S.Source.left c.read_whole_line.new.source)) c.in-End.is c.in_ok-read_whole_line.ensures
+    (subst (λ r. HasReadWhole r c.read_whole_line.new.line.items (g.S.Source.left c.args.source.now) (g.S.Source.left c.read_whole_line.new.source)) c.in-End.is c.in_ok-read_whole_line.ensures, keeps)

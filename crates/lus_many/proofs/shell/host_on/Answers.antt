@@ -1,19 +1,22 @@
--- Instances of a node are hosted, or the program lacks it.
+-- Instances of a node are hosted, with a log or without one, or the program lacks it.
 use Rattle.std.proofs.Common.{◌≡◌, ◌∙◌, ap, refl, subst, sym, None, Some}
 use Rattle.std.specs.Arc.{arc_value}
 use Rattle.std.specs.Option.{option_map}
 use Rattle.lus_cli.specs.Changes.{change}
 use Rattle.lus_cli.specs.CodeSpecs.Codes.{program_of}
+use Rattle.lus_cli.specs.Ends.{ReadFails}
 use Rattle.lus_cli.specs.MachineSpecs.Formals.{node_named}
 use Rattle.lus_hosting.proofs.LiveProofs.LiveLaws.{named_within}
 use Rattle.lus_cli.specs.Programs.{IsOfFile}
-use Rattle.lus_many.proofs.EndLemmas.{hosted}
+use Rattle.lus_live.specs.Ends.{Opens}
+use Rattle.lus_many.specs.CommandLine.{session_seen, sessions_seen, task_seen}
+use Rattle.lus_many.proofs.EndLemmas.{hosted, session_stays, task_goes, task_ran}
 use Rattle.lus_many.proofs.shell.host_on.Goals as goal
 
 pub returns-in_default-clause-ends : goal.returns-in_default-clause-ends
 returns-in_default-clause-ends g c =
     let none : node_named (program_of c.in_ok-program.program) c.args.task.node.now ≡ None = sym c.node.ensures ∙ ap (option_map _) c.in_default.is in
-    ((refl, (program_of c.in_ok-program.program, c.in_ok-program.ensures.accepted, none)), refl, (refl, refl))
+    ((refl, (program_of c.in_ok-program.program, c.in_ok-program.ensures.accepted, none)), refl, (refl, refl), (refl, refl))
 
 pub host_in-requires : goal.host_in-requires
 host_in-requires g c =
@@ -23,17 +26,39 @@ host_in-requires g c =
     named_within (program_of (arc_value c.in-Ok.program)) c.args.task.node.now c.in-Some.node.0
     (subst (λ p. node_named p c.args.task.node.now ≡ Some c.in-Some.node.0) same named)
 
-pub returns-clause-ends : goal.returns-clause-ends
-returns-clause-ends g c =
+pub go_on-requires : goal.go_on-requires
+go_on-requires g c =
     let same : program_of c.in_ok-program.program ≡ program_of (arc_value c.in-Ok.program) = ap program_of (sym c.in-Ok.ensures.ok) in
     let named : node_named (program_of c.in_ok-program.program) c.args.task.node.now ≡ Some c.in-Some.node.0 =
     sym c.node.ensures ∙ ap (option_map _) c.in-Some.is in
-    record {
-      program = program_of (arc_value c.in-Ok.program);
-      accepted = subst (IsOfFile (g.D.Folder.known c.args.folder.now c.args.task.program.now)) same c.in_ok-program.ensures.accepted;
-      node = c.in-Some.node.0;
-      named = subst (λ p. node_named p c.args.task.node.now ≡ Some c.in-Some.node.0) same named;
-      hosted = hosted c.args.task.is_json (program_of (arc_value c.in-Ok.program)) c.in-Some.node.0 (g.S.Source.left c.args.input.now) (g.S.Source.left c.host_in.new.input) c.host_in.result
-          (change (g.O.Sink.written c.args.output.now) (g.O.Sink.written c.host_in.new.output) (g.O.Sink.failures c.args.output.now) (g.O.Sink.failures c.host_in.new.output))
-          c.host_in.ensures.all c.host_in.ensures.begun;
-    }
+    named_within (program_of (arc_value c.in-Ok.program)) c.args.task.node.now c.in-Some.node.0
+    (subst (λ p. node_named p c.args.task.node.now ≡ Some c.in-Some.node.0) same named)
+
+pub returns-in-None-clause-ends : goal.returns-in-None-clause-ends
+returns-in-None-clause-ends g c =
+    let same : program_of c.in_ok-program.program ≡ program_of (arc_value c.in-Ok.program) = ap program_of (sym c.in-Ok.ensures.ok) in
+    let named : node_named (program_of c.in_ok-program.program) c.args.task.node.now ≡ Some c.in-Some.node.0 =
+    sym c.node.ensures ∙ ap (option_map _) c.in-Some.is in
+    task_ran (ReadFails g.row.D-File.Denot g.D.File.Source.left g.D.File.Source.failures) (g.D.Folder.known c.args.folder.now)
+    (Opens g.row.L.Denot g.L.Log.opens c.args.log.now) (g.S.Source.left c.args.input.now) (g.S.Source.left c.host_in.new.input)
+    (change (g.L.Sink.written c.args.log.now) (g.L.Sink.written c.args.log.now) (g.L.Sink.failures c.args.log.now) (g.L.Sink.failures c.args.log.now)) (task_seen c.args.task) (program_of (arc_value c.in-Ok.program)) c.in-Some.node.0
+    (change (g.O.Sink.written c.args.output.now) (g.O.Sink.written c.host_in.new.output) (g.O.Sink.failures c.args.output.now) (g.O.Sink.failures c.host_in.new.output))
+    (subst (IsOfFile (g.D.Folder.known c.args.folder.now c.args.task.program.now)) same c.in_ok-program.ensures.accepted)
+    (subst (λ p. node_named p c.args.task.node.now ≡ Some c.in-Some.node.0) same named) None c.host_in.result (ap sessions_seen c.in-None.is)
+    (hosted _ _ _ _ _ _ _ c.host_in.ensures.all c.host_in.ensures.begun)
+
+pub returns-in-Some-clause-ends : goal.returns-in-Some-clause-ends
+returns-in-Some-clause-ends g c =
+    let same : program_of c.in_ok-program.program ≡ program_of (arc_value c.in-Ok.program) = ap program_of (sym c.in-Ok.ensures.ok) in
+    let named : node_named (program_of c.in_ok-program.program) c.args.task.node.now ≡ Some c.in-Some.node.0 =
+    sym c.node.ensures ∙ ap (option_map _) c.in-Some.is in
+    task_goes (ReadFails g.row.D-File.Denot g.D.File.Source.left g.D.File.Source.failures) (g.D.Folder.known c.args.folder.now)
+    (Opens g.row.L.Denot g.L.Log.opens c.args.log.now) (g.S.Source.left c.args.input.now) (g.S.Source.left c.go_on.new.input)
+    (change (g.L.Sink.written c.args.log.now) (g.L.Sink.written c.go_on.new.log) (g.L.Sink.failures c.args.log.now) (g.L.Sink.failures c.go_on.new.log)) (task_seen c.args.task) (program_of (arc_value c.in-Ok.program)) c.in-Some.node.0
+    (change (g.O.Sink.written c.args.output.now) (g.O.Sink.written c.go_on.new.output) (g.O.Sink.failures c.args.output.now) (g.O.Sink.failures c.go_on.new.output))
+    (subst (IsOfFile (g.D.Folder.known c.args.folder.now c.args.task.program.now)) same c.in_ok-program.ensures.accepted)
+    (subst (λ p. node_named p c.args.task.node.now ≡ Some c.in-Some.node.0) same named) (session_seen c.in-Some.session) c.go_on.result (ap sessions_seen c.in-Some.is)
+    c.go_on.ensures.ends
+
+pub returns-in-Some-clause-stays : goal.returns-in-Some-clause-stays
+returns-in-Some-clause-stays g c = session_stays _ (session_seen c.in-Some.session) _ (ap sessions_seen c.in-Some.is)
