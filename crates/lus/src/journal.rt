@@ -47,6 +47,8 @@ impl Sink for JournalFile<'_> {
 impl Log for JournalFile<'_> {
     ghost opens = { λ _ _ _. ⊤ };
 
+    ghost cuts = { λ _ _ _. ⊤ };
+
     fn open(&mut self, name: &str) -> Result<(), Failure> {
         let mut how = OpenOptions::new();
         how.append(true).create(true);

@@ -3,7 +3,7 @@ use Rattle.std.proofs.Common.{◌≡◌, ◌∙◌, ◌+◌, ◌++◌, ◌≤◌
 use Rattle.indexmap.specs.IndexMap.{get_by_text}
 use Rattle.lus_program.specs.Programs.{Program}
 use Rattle.lus_devices.specs.Devices.{Bytes, WritesBeginning, with_front, with_text}
-use Rattle.lus_devices.proofs.Laws.{reaches_began, with_front-more, with_text-more, with_text-nothing}
+use Rattle.lus_devices.proofs.Laws.{reaches_began, reaches_stop, with_front-more, with_text-more, with_text-nothing}
 use Rattle.lus_lines.specs.Lines.{IsLast}
 use Rattle.lus_play.specs.Plays.{with_tail}
 use Rattle.lus_play.specs.declared.playing.Score.{Score}
@@ -141,15 +141,18 @@ module _ (reads : Reads) (p : Program) (f : ℕ) (j s : Spelling) (before : List
       were = so_far.were;
       lawful = all_lawful p f so_far.log (get_by_text instances.by_name) so_far.keeps;
       logged = all_begun l on so_far.kept (still ∙ so_far.logged);
+      wrote = all_begun w next so_far.written (same ∙ so_far.wrote);
       ahead = record {
         told = so_far.log;
         rest = [];
         denied = so_far.denied;
         read = so_far.read;
+        later = [];
         kept = so_far.kept;
         written = so_far.written;
         turns = so_far.turns;
-        all_are = sym (append-nil so_far.log);
+        log_is = sym (append-nil so_far.log);
+        lines_are = sym (append-nil so_far.read);
         whole = all_whole l on so_far.kept (still ∙ so_far.logged);
         replied = all_begun w next so_far.written (same ∙ so_far.wrote);
       };
@@ -178,15 +181,18 @@ module _ (reads : Reads) (p : Program) (f : ℕ) (j s : Spelling) (before : List
             were = were;
             lawful = some.lawful;
             logged = more_begun l at on so_far.kept noted so_far.logged began.0;
+            wrote = reaches_stop w next (so_far.written ++ told) told (so_far.written, began.1 ∙ so_far.wrote, refl);
             ahead = record {
               told = so_far.log;
               rest = added_by t;
               denied = so_far.denied;
               read = so_far.read;
+              later = line_at reads p f so_far.log t;
               kept = so_far.kept;
               written = so_far.written;
               turns = so_far.turns;
-              all_are = refl;
+              log_is = refl;
+              lines_are = refl;
               whole = begun_behind l at on so_far.kept noted so_far.logged began.0;
               replied = all_begun w next so_far.written (began.1 ∙ so_far.wrote);
             };
@@ -204,15 +210,18 @@ module _ (reads : Reads) (p : Program) (f : ℕ) (j s : Spelling) (before : List
                 were = were;
                 lawful = some.lawful;
                 logged = all_begun l on (so_far.kept ++ noted) all;
+                wrote = more_begun w now next so_far.written told so_far.wrote began.1;
                 ahead = record {
                   told = log;
                   rest = [];
                   denied = so_far.denied + denied_by t;
                   read = read;
+                  later = [];
                   kept = so_far.kept ++ noted;
                   written = so_far.written ++ told;
                   turns = turns;
-                  all_are = sym (append-nil log);
+                  log_is = sym (append-nil log);
+                  lines_are = sym (append-nil read);
                   whole = all_whole l on (so_far.kept ++ noted) all;
                   replied = more_begun w now next so_far.written told so_far.wrote began.1;
                 };

@@ -158,21 +158,24 @@ module _ (reads : Reads) (p : Program) (f : ℕ) (j s : Spelling) (before : List
     pub entered : length before + score.entered ≡ length log
     pub refused : score.refused ≡ with_tail tail denied
 
-  -- of the entries of a log some are answered, of which its file has the lines whole: of their answers a beginning is written
-  pub record IsAhead (all : List Logged) (l l' w w' : Option Bytes) : Type 0 where
+  -- of these entries and these lines the first are answered: the log has the lines of their entries whole, and of their answers a beginning is
+  -- written
+  pub record IsAhead (log : List Logged) (lines : Bytes) (l l' w w' : Option Bytes) : Type 0 where
     pub told : List Logged
     pub rest : List Logged
     pub denied : ℕ
     pub read : Bytes
+    pub later : Bytes
     pub kept : Bytes
     pub written : Bytes
     pub turns : Turns told denied read kept written
-    pub all_are : all ≡ told ++ rest
+    pub log_is : log ≡ told ++ rest
+    pub lines_are : lines ≡ read ++ later
     pub whole : HasWhole l l' kept
     pub replied : WritesBeginning w w' written
 
-  -- Some lines were read. The entries of each instance are a lawful history of the node, and a beginning of their text is in the log. Of some,
-  -- whose text is whole there, a beginning of the answers is written.
+  -- Some lines were read. The entries of each instance are a lawful history of the node, of what is to be written a beginning is, and no
+  -- answer is begun before its entry is whole in the log.
   pub record HasHostedSome (left l l' w w' : Option Bytes) : Type 0 where
     pub log : List Logged
     pub denied : ℕ
@@ -184,7 +187,8 @@ module _ (reads : Reads) (p : Program) (f : ℕ) (j s : Spelling) (before : List
     pub were : left ≡ with_front read later
     pub lawful : (name : Text) → History p f (entries_of name log)
     pub logged : WritesBeginning l l' kept
-    pub ahead : IsAhead log l l' w w'
+    pub wrote : WritesBeginning w w' written
+    pub ahead : IsAhead log read l l' w w'
 
 -- ---- why a run stops
 

@@ -212,14 +212,16 @@ pub fn host_many<T: Tells, S: Source, O: Sink>(
     let mut instances = Instances {
         by_name: IndexMap::with_hasher(alloc, keys),
     };
+    let silent = Silent;
+    let mut nowhere = Nowhere;
     host_lines(
         host,
         &mut instances,
         Lines::All,
-        &Silent,
+        &silent,
         teller,
         input,
-        &mut Nowhere,
+        &mut nowhere,
         output,
         line,
         right,
@@ -285,10 +287,8 @@ pub fn host_behind<T: Tells, S: Source, L: Sink, O: Sink>(
         program,
         node,
     };
-    let scribe = LogLines {
-        alloc,
-        names: program.names(),
-    };
+    let names = program.names();
+    let scribe = LogLines { alloc, names };
     let mut recovered = recovered;
     let mut line = Vec::new(alloc);
     let mut right = String::new(alloc);

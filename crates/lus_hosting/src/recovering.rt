@@ -1,8 +1,11 @@
 //! Reading a log, up to where a run goes on in it.
 
-ghost use Rattle.std.specs.Prelude.{◌<◌, IfOk, length};
+ghost use Rattle.std.specs.Prelude.{◌≡◌, ◌+◌, ◌<◌, IfOk, List, length, string_bytes};
 ghost use Rattle.std.specs.Arc.{arc_value};
 ghost use Rattle.lus_live_instance.specs.MachineSpecs.CodeSpecs.Codes.{program_of};
+ghost use Rattle.lus_hosting.specs.Audits.{FindsLine};
+ghost use Rattle.lus_hosting.specs.Hosts.{Keeps};
+ghost use Rattle.lus_hosting.specs.Logs.{Logged};
 ghost use Rattle.lus_hosting.specs.Recoveries.{IsRecovered};
 
 use crate::auditing::{Found, read_found};
@@ -45,6 +48,25 @@ fn stop_of(error: AuditError) -> RecoveryError {
     }
 }
 
+/// Reads the next line of a log, and says what it is.
+fn next_found<S: Source>(
+    host: Host<'_>,
+    instances: &mut Instances,
+    source: &mut S,
+    line: &mut Vec<u8>,
+    right: &mut String,
+) -> Result<Found, RecoveryError>
+    requires { host.node.0 < length (program_of (arc_value host.program.now)).nodes }
+    ensures { (log : List Logged) → Keeps (program_of (arc_value host.entry.program.now)) host.entry.node.0 log instances.old
+        → IfOk result (λ found. FindsLine found (program_of (arc_value host.entry.program.now)) host.entry.node.0 log
+        (S.left source.old) (S.left source.new) line.new.items (string_bytes right.new) instances.new) }
+{
+    match read_found(host, instances, source, line, right) {
+        Ok(found) => Ok(found),
+        Err(error) => Err(stop_of(error)),
+    }
+}
+
 /// Reads a log of instances of a node, and replays each entry on a new instance of its name, which then is where the log's was. Where a
 /// line isn't right, it is in `line`, with its line feed, and where its reply isn't, the line that would be right is in `right`. No more is
 /// kept than the instances and one line. `keys` are of the names' hash function.
@@ -70,11 +92,7 @@ pub fn recover_log<S: Source>(
     };
     let mut bytes = 0u64;
     for lines in 0..u64::MAX {
-        let found = match read_found(host, &mut instances, source, line, right) {
-            Ok(found) => found,
-            Err(error) => return Err(stop_of(error)),
-        };
-        match found {
+        match next_found(host, &mut instances, source, line, right)? {
             Found::Right => bytes = bytes_with(bytes, line)?,
             Found::Noted => bytes = bytes_with(bytes, line)?,
             Found::Wrong => return Err(RecoveryError::Wrong(lines + 1)),

@@ -11,6 +11,9 @@ pub trait Log: Sink {
     // It was this, and was opened by this name.
     ghost opens: { Self → List ℕ → Self → Type 0 };
 
+    // It was this, and what its file had behind so many bytes was taken away.
+    ghost cuts: { Self → ℕ → Self → Type 0 };
+
     /// Opens the file of this name, or makes an empty one. Fails where another run has it open so.
     fn open(&mut self, name: &str) -> Result<(), Failure>
         ensures opened { OnOk result (opens self.old name.now self.new) }
@@ -19,6 +22,7 @@ pub trait Log: Sink {
 
     /// Takes away what the file has behind so many bytes.
     fn cut(&mut self, bytes: u64) -> Result<(), Failure>
+        ensures taken { OnOk result (cuts self.old bytes self.new) }
         ensures written { Self.written self.new ≡ Self.written self.old }
         ensures failures { Self.failures self.new ≡ Self.failures self.old };
 }

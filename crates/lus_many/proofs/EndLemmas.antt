@@ -1,5 +1,5 @@
 -- How a host of many instances ends, by how its parts do.
-use Rattle.std.proofs.Common.{◌≡◌, ◌∙◌, ℕ, Bool, inl, inr, refl, subst, sym, List, [], Option, Some, None, Result, Ok, Err, IfErr, IfOk, OnErr}
+use Rattle.std.proofs.Common.{◌≡◌, ◌∙◌, ℕ, Bool, true, false, ap, inl, inr, refl, subst, sym, List, [], Option, Some, None, Result, Ok, Err, IfErr, IfOk, OnErr}
 use Rattle.lus_program.specs.Programs.{Program}
 use Rattle.lus_devices.specs.Devices.{Bytes}
 use Rattle.lus_devices.specs.Folders.{Holds, Known}
@@ -19,7 +19,8 @@ use Rattle.lus_cli.specs.declared.fault.Fault.TheVariants as faults
 use Rattle.lus_cli.proofs.ProgramLemmas.{file_then}
 use Rattle.lus_live.specs.Ends.{IsRecoveryFault}
 use Rattle.lus_many.specs.CommandLine.{Asked, Session}
-use Rattle.lus_many.specs.Ends.{AsksSession, GoesOn, HasGoneOn, HasRunIn, HostFails, Hosted, HostedOn, IsRecovered, IsSessionFault, LogStays, Ran, StaysIn, TaskEnds, spelling_of}
+use Rattle.lus_many.specs.Ends.{AsksSession, CutsTail, GoesOn, HasGoneOn, HasRunIn, HostFails, Hosted, HostedOn, IsRecovered, IsSessionFault, LogStays, Ran, Readies, StaysIn, TaskEnds, spelling_of}
+use Rattle.lus_many.specs.Objects.{node_spelling}
 
 -- what was hosted, whether to the end or not
 pub hosted : (is_json : Bool) (p : Program) (f : ℕ) (left end : Option Bytes) (ran : Ran) (output : Change)
@@ -29,7 +30,14 @@ pub hosted : (is_json : Bool) (p : Program) (f : ℕ) (left end : Option Bytes) 
 hosted is_json p f left end (Ok score) output all begun = all
 hosted is_json p f left end (Err e) output all begun = begun
 
--- likewise, behind what a log has
+-- the form that is asked for
+pub spelled_json : (is_json : Bool) (p : Program) (f : ℕ) (s : Spelling) → is_json ≡ true → s ≡ node_spelling p f → s ≡ spelling_of is_json p f
+spelled_json is_json p f s is same = same ∙ ap (λ b. spelling_of b p f) (sym is)
+
+pub spelled_log : (is_json : Bool) (p : Program) (f : ℕ) (s : Spelling) → is_json ≡ false → s ≡ log_spelling (names_of p) → s ≡ spelling_of is_json p f
+spelled_log is_json p f s is same = same ∙ ap (λ b. spelling_of b p f) (sym is)
+
+-- what was hosted, behind what a log has
 hosted_on : (reads : Reads) (j : Spelling) (is_json : Bool) (p : Program) (f : ℕ) (before : List Logged) (left end : Option Bytes) (log : Change) (ran : Ran)
     (output : Change)
     → IfOk ran (λ score. HasHosted reads p f j (spelling_of is_json p f) before left end log.old log.new output.old output.new score)
@@ -50,21 +58,29 @@ recovered_file p f known left ahead r holds same replayed =
     )
 
 -- where the log's device was this before it was opened and its end was cut
-pub gone_on : (p : Program) (f : ℕ) (known : Known) (is_opened : Type 0) (is_json : Bool) (session : Session) (left end : Option Bytes) (log : Change)
-    (l : Option Bytes) (ran : Ran) (output : Change) (r : Recovered) → l ≡ log.old → (recovered : IsRecovered known p f r) → is_opened
+pub gone_on : (p : Program) (f : ℕ) (known : Known) (readies : Option ℕ → ℕ → Type 0) (is_json : Bool) (session : Session) (left end : Option Bytes) (log : Change)
+    (l : Option Bytes) (ran : Ran) (output : Change) (r : Recovered) → l ≡ log.old → (recovered : IsRecovered known p f r) → readies r.cut r.bytes
     → IfOk ran (λ score. HasHosted (calls session.caller) p f (log_spelling (names_of p)) (spelling_of is_json p f) recovered.0 left end l log.new output.old output.new score)
     → OnErr ran (HasHostedSome (calls session.caller) p f (log_spelling (names_of p)) (spelling_of is_json p f) recovered.0 left l log.new output.old output.new)
-    → IfErr ran (StopsBy (calls session.caller)) → HasGoneOn known is_opened is_json session p f left end log ran output
-gone_on p f known is_opened is_json session left end log l ran output r same recovered opened all begun lasts = record {
+    → IfErr ran (StopsBy (calls session.caller)) → HasGoneOn known readies is_json session p f left end log ran output
+gone_on p f known readies is_json session left end log l ran output r same recovered readied all begun lasts = record {
   recovered = r;
   before = recovered.0;
   replayed = recovered.1;
-  opened = opened;
+  readied = readied;
   hosted = hosted_on (calls session.caller) (log_spelling (names_of p)) is_json p f recovered.0 left end log ran output
       (subst (λ k. IfOk ran (λ score. HasHosted (calls session.caller) p f (log_spelling (names_of p)) (spelling_of is_json p f) recovered.0 left end k log.new output.old output.new score)) same all)
       (subst (λ k. OnErr ran (HasHostedSome (calls session.caller) p f (log_spelling (names_of p)) (spelling_of is_json p f) recovered.0 left k log.new output.old output.new)) same begun)
       lasts;
 }
+
+-- nothing was cut, or what stood behind so many bytes
+pub cut_none : {L : Type 0} → (cuts : L → ℕ → L → Type 0) (cut : Option ℕ) (bytes : ℕ) (log : L) → cut ≡ None → CutsTail cuts cut bytes log log
+cut_none cuts cut bytes log is = subst (λ o. CutsTail cuts o bytes log log) (sym is) refl
+
+pub cut_some : {L : Type 0} → (cuts : L → ℕ → L → Type 0) (cut : Option ℕ) (bytes line : ℕ) (log new : L) → cut ≡ Some line → cuts log bytes new
+    → CutsTail cuts cut bytes log new
+cut_some cuts cut bytes line log new is taken = subst (λ o. CutsTail cuts o bytes log new) (sym is) taken
 
 -- a fault of the program
 pub program_fails : (read_fails : Known → Type 0) (file : Known) (name : Text) (session : Option Session) (f : Fault) → IsProgramFault read_fails file f
@@ -100,22 +116,22 @@ session_fails read_fails file name session f asks fault =
       | inr is ↦ subst (HostFails read_fails file name session) (sym is) asks
     ]
 
-module _ (read_fails : Known → Type 0) (known : Text → Known) (opens : Text → Type 0) (left end : Option Bytes) (log : Change) (asked : Asked) (p : Program)
+module _ (read_fails : Known → Type 0) (known : Text → Known) (readies : Readies) (left end : Option Bytes) (log : Change) (asked : Asked) (p : Program)
     (node : ℕ) (output : Change) (accepted : IsOfFile (known asked.program) p) (named : node_named p asked.node ≡ Some node) where
   -- with a log or without one
   pub task_ran : (session : Option Session) (ran : Ran) → asked.session ≡ session
-      → HasRunIn known opens asked.is_json session p node left end log ran output → TaskEnds read_fails known opens left end log asked (Ok ran) output
+      → HasRunIn known readies asked.is_json session p node left end log ran output → TaskEnds read_fails known readies left end log asked (Ok ran) output
   task_ran session ran is hosted = record {
     program = p;
     accepted = accepted;
     node = node;
     named = named;
-    hosted = subst (λ k. HasRunIn known opens asked.is_json k p node left end log ran output) (sym is) hosted;
+    hosted = subst (λ k. HasRunIn known readies asked.is_json k p node left end log ran output) (sym is) hosted;
   }
 
   pub task_goes : (session : Session) (result : Result Ran Fault) → asked.session ≡ Some session
-      → GoesOn (known session.log) (opens session.log) asked.is_json session p node left end log result output
-      → TaskEnds read_fails known opens left end log asked result output
+      → GoesOn (known session.log) (readies session.log) asked.is_json session p node left end log result output
+      → TaskEnds read_fails known readies left end log asked result output
   task_goes session (Ok ran) is goes = task_ran (Some session) ran is goes
   task_goes session (Err f) is goes = (
     session_fails read_fails (known asked.program) asked.node asked.session f

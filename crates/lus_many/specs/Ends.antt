@@ -55,29 +55,46 @@ Hosted is_json p f left end (Err e) output =
 abbrev pub IsRecovered : Known → Program → ℕ → Recovered → Type 0
 IsRecovered had p f r = (log : List Logged) × WithFile had (λ bytes. HasRecovered p f (Some bytes) log r) × Keeps p f log r.instances
 
--- behind what a log has, the input's calls were made
-pub record HasGoneOn (had : Known) (is_opened : Type 0) (is_json : Bool) (session : Session) (p : Program) (f : ℕ) (left end : Option Bytes)
-    (log : Change) (ran : Ran) (output : Change) : Type 0 where
+-- where a line was cut short, what the file of a log has behind so many bytes is taken away, and nothing where none was
+abbrev pub CutsTail : {L : Type 0} → (L → ℕ → L → Type 0) → Option ℕ → ℕ → L → L → Type 0
+CutsTail cuts None bytes log new = new ≡ log
+CutsTail cuts (Some line) bytes log new = cuts log bytes new
+
+-- a device of this type was this, was opened by this name, and the end of its file was cut so
+pub record IsReadied (L : Type 0) (opens : L → Text → L → Type 0) (cuts : L → ℕ → L → Type 0) (log : L) (name : Text) (cut : Option ℕ) (bytes : ℕ)
+    : Type 0 where
+  pub opened : L
+  pub ready : L
+  pub opens_so : opens log name opened
+  pub cuts_so : CutsTail cuts cut bytes opened ready
+
+-- a log by the name of its file, and how its end is cut
+abbrev pub Readies : Type 1
+Readies = Text → Option ℕ → ℕ → Type 0
+
+-- behind the whole lines of a log, what stood behind which was cut, the input's calls were made
+pub record HasGoneOn (had : Known) (readies : Option ℕ → ℕ → Type 0) (is_json : Bool) (session : Session) (p : Program) (f : ℕ)
+    (left end : Option Bytes) (log : Change) (ran : Ran) (output : Change) : Type 0 where
   pub recovered : Recovered
   pub before : List Logged
   pub replayed : WithFile had (λ bytes. HasRecovered p f (Some bytes) before recovered)
-  pub opened : is_opened
+  pub readied : readies recovered.cut recovered.bytes
   pub hosted : HostedOn (calls session.caller) (log_spelling (names_of p)) is_json p f before left end log ran output
 
 -- with a log or without one
-abbrev pub HasRunIn : (Text → Known) → (Text → Type 0) → Bool → Option Session → Program → ℕ → Option Bytes → Option Bytes → Change → Ran → Change → Type 0
-HasRunIn known opens is_json None p f left end log ran output = Hosted is_json p f left end ran output
-HasRunIn known opens is_json (Some session) p f left end log ran output =
-    HasGoneOn (known session.log) (opens session.log) is_json session p f left end log ran output
+abbrev pub HasRunIn : (Text → Known) → Readies → Bool → Option Session → Program → ℕ → Option Bytes → Option Bytes → Change → Ran → Change → Type 0
+HasRunIn known readies is_json None p f left end log ran output = Hosted is_json p f left end ran output
+HasRunIn known readies is_json (Some session) p f left end log ran output =
+    HasGoneOn (known session.log) (readies session.log) is_json session p f left end log ran output
 
 -- instances of the node of this name of a file's program were hosted
-pub record HasRun (known : Text → Known) (opens : Text → Type 0) (asked : Asked) (left end : Option Bytes) (log : Change) (ran : Ran)
+pub record HasRun (known : Text → Known) (readies : Readies) (asked : Asked) (left end : Option Bytes) (log : Change) (ran : Ran)
     (output : Change) : Type 0 where
   pub program : Program
   pub accepted : IsOfFile (known asked.program) program
   pub node : ℕ
   pub named : node_named program asked.node ≡ Some node
-  pub hosted : HasRunIn known opens asked.is_json asked.session program node left end log ran output
+  pub hosted : HasRunIn known readies asked.is_json asked.session program node left end log ran output
 
 -- a log is gone on in, of a node that the file has
 abbrev pub AsksSession : Known → Text → Option Session → Type 0
@@ -98,10 +115,9 @@ HostFails read_fails file name session faults.Output = AsksSession file name ses
 HostFails read_fails file name session faults.Start = ⊥
 
 -- instances are hosted, or no line is read and nothing is written
-abbrev pub TaskEnds : (Known → Type 0) → (Text → Known) → (Text → Type 0) → Option Bytes → Option Bytes → Change → Asked → Result Ran Fault → Change
-    → Type 0
-TaskEnds read_fails known opens left end log asked (Ok ran) output = HasRun known opens asked left end log ran output
-TaskEnds read_fails known opens left end log asked (Err f) output =
+abbrev pub TaskEnds : (Known → Type 0) → (Text → Known) → Readies → Option Bytes → Option Bytes → Change → Asked → Result Ran Fault → Change → Type 0
+TaskEnds read_fails known readies left end log asked (Ok ran) output = HasRun known readies asked left end log ran output
+TaskEnds read_fails known readies left end log asked (Err f) output =
     HostFails read_fails (known asked.program) asked.node asked.session f × (end ≡ left) × IsUntouched log × IsUntouched output
 
 -- without a log among the words the log's device is left alone
@@ -119,9 +135,9 @@ LogStays (Some asked) log = StaysIn asked.session log
 abbrev pub IsSessionFault : Fault → Type 0
 IsSessionFault e = IsRecoveryFault e ⊎ (e ≡ faults.Output)
 
-abbrev pub GoesOn : Known → Type 0 → Bool → Session → Program → ℕ → Option Bytes → Option Bytes → Change → Result Ran Fault → Change → Type 0
-GoesOn had is_opened is_json session p f left end log (Ok ran) output = HasGoneOn had is_opened is_json session p f left end log ran output
-GoesOn had is_opened is_json session p f left end log (Err e) output = IsSessionFault e × (end ≡ left) × IsUntouched log × IsUntouched output
+abbrev pub GoesOn : Known → (Option ℕ → ℕ → Type 0) → Bool → Session → Program → ℕ → Option Bytes → Option Bytes → Change → Result Ran Fault → Change → Type 0
+GoesOn had readies is_json session p f left end log (Ok ran) output = HasGoneOn had readies is_json session p f left end log ran output
+GoesOn had readies is_json session p f left end log (Err e) output = IsSessionFault e × (end ≡ left) × IsUntouched log × IsUntouched output
 
 -- ---- what is told
 
@@ -139,8 +155,8 @@ IsTold (Ok (Err e)) status faults = IsToldLast status (host_fault e) faults
 IsTold (Err f) status faults = IsToldAlone status f faults
 
 -- a host ends with an outcome of what was asked for, which is told
-pub record Ends (read_fails : Known → Type 0) (known : Text → Known) (opens : Text → Type 0) (asked : Option Asked) (left end : Option Bytes)
+pub record Ends (read_fails : Known → Type 0) (known : Text → Known) (readies : Readies) (asked : Option Asked) (left end : Option Bytes)
     (log output faults : Change) (status : ℕ) : Type 0 where
   pub outcome : Result Ran Fault
-  pub ends : AskedEnds (TaskEnds read_fails known opens left end log) asked outcome output
+  pub ends : AskedEnds (TaskEnds read_fails known readies left end log) asked outcome output
   pub told : IsTold outcome status faults

@@ -11,9 +11,9 @@ ghost use Rattle.lus_hosting.specs.Hosts.{Keeps};
 ghost use Rattle.lus_hosting.specs.Logs.{Logged};
 ghost use Rattle.lus_hosting.specs.Spellings.{log_spelling, no_spelling};
 ghost use Rattle.lus_hosting.specs.Turns.{HasHosted, HasHostedSome, StopsBy, calls, everything};
-ghost use Rattle.lus_live.specs.Ends.{IsRecoveryFault, Opens, recovery_fault};
+ghost use Rattle.lus_live.specs.Ends.{IsRecoveryFault, recovery_fault};
 ghost use Rattle.lus_many.specs.CommandLine.{asked, session_seen, task_seen};
-ghost use Rattle.lus_many.specs.Ends.{Ends, GoesOn, IsSessionFault, IsRecovered, LogStays, TaskEnds, host_fault, spelling_of};
+ghost use Rattle.lus_many.specs.Ends.{CutsTail, Ends, GoesOn, IsReadied, IsRecovered, IsSessionFault, LogStays, TaskEnds, host_fault, spelling_of};
 
 use crate::notes::{Wrong, tell_cut, tell_no_line, tell_right, tell_wrong};
 use crate::objects::{host_json, json_lines};
@@ -42,7 +42,7 @@ fn perform<D: Folder, S: Source, L: Log, O: Sink, F: Sink>(
     wrong: &mut Wrong,
     faults: &mut F,
 ) -> Result<Result<Score, HostError>, Fault>
-    ensures ends { AskedEnds (TaskEnds (ReadFails D.File D.File.left D.File.failures) (D.known folder.now) (Opens L L.opens log.old)
+    ensures ends { AskedEnds (TaskEnds (ReadFails D.File D.File.left D.File.failures) (D.known folder.now) (IsReadied L L.opens L.cuts log.old)
         (S.left input.old) (S.left input.new)
         (change (L.written log.old) (L.written log.new) (L.failures log.old) (L.failures log.new))) (asked (map string_bytes words.now)) result
         (change (O.written output.old) (O.written output.new) (O.failures output.old) (O.failures output.new)) }
@@ -67,7 +67,7 @@ fn host_on<D: Folder, S: Source, L: Log, O: Sink, F: Sink>(
     wrong: &mut Wrong,
     faults: &mut F,
 ) -> Result<Result<Score, HostError>, Fault>
-    ensures ends { TaskEnds (ReadFails D.File D.File.left D.File.failures) (D.known folder.now) (Opens L L.opens log.old)
+    ensures ends { TaskEnds (ReadFails D.File D.File.left D.File.failures) (D.known folder.now) (IsReadied L L.opens L.cuts log.old)
         (S.left input.old) (S.left input.new)
         (change (L.written log.old) (L.written log.new) (L.failures log.old) (L.failures log.new)) (task_seen task.entry) result
         (change (O.written output.old) (O.written output.new) (O.failures output.old) (O.failures output.new)) }
@@ -204,6 +204,7 @@ fn cut_tail<L: Log, F: Sink>(
     recovered: &Recovered,
     faults: &mut F,
 ) -> Result<(), Fault>
+    ensures taken { OnOk result (CutsTail L.cuts recovered.now.cut recovered.now.bytes log.old log.new) }
     ensures written { IsUntouched (change (L.written log.old) (L.written log.new) (L.failures log.old) (L.failures log.new)) }
     ensures fault { IfErr result (λ f. IsSessionFault f) }
     ensures quiet { IfErr result (λ f. IsQuiet f
@@ -251,10 +252,8 @@ fn host_session<S: Source, L: Sink, O: Sink>(
             alloc, program, node, recovered, caller, &teller, input, log, output,
         )
     } else {
-        let teller = LogLines {
-            alloc,
-            names: program.names(),
-        };
+        let names = program.names();
+        let teller = LogLines { alloc, names };
         host_behind(
             alloc, program, node, recovered, caller, &teller, input, log, output,
         )
@@ -276,7 +275,7 @@ fn go_on<D: Folder, S: Source, L: Log, O: Sink, F: Sink>(
     faults: &mut F,
 ) -> Result<Result<Score, HostError>, Fault>
     requires { node.0 < length (program_of (arc_value program.now)).nodes }
-    ensures ends { GoesOn (D.known folder.now session.entry.log.now) (Opens L L.opens log.old session.entry.log.now) is_json
+    ensures ends { GoesOn (D.known folder.now session.entry.log.now) (IsReadied L L.opens L.cuts log.old session.entry.log.now) is_json
         (session_seen session.entry) (program_of (arc_value program.now)) node.0 (S.left input.old) (S.left input.new)
         (change (L.written log.old) (L.written log.new) (L.failures log.old) (L.failures log.new)) result
         (change (O.written output.old) (O.written output.new) (O.failures output.old) (O.failures output.new)) }
@@ -329,7 +328,7 @@ pub fn command<D: Folder, S: Source, L: Log, O: Sink, F: Sink>(
     output: &mut O,
     faults: &mut F,
 ) -> u8
-    ensures ends { Ends (ReadFails D.File D.File.left D.File.failures) (D.known folder.now) (Opens L L.opens log.old)
+    ensures ends { Ends (ReadFails D.File D.File.left D.File.failures) (D.known folder.now) (IsReadied L L.opens L.cuts log.old)
         (asked (map string_bytes words.now)) (S.left input.old) (S.left input.new)
         (change (L.written log.old) (L.written log.new) (L.failures log.old) (L.failures log.new))
         (change (O.written output.old) (O.written output.new) (O.failures output.old) (O.failures output.new))

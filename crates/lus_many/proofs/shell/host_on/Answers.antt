@@ -8,8 +8,8 @@ use Rattle.lus_cli.specs.Ends.{ReadFails}
 use Rattle.lus_cli.specs.MachineSpecs.Formals.{node_named}
 use Rattle.lus_hosting.proofs.LiveProofs.LiveLaws.{named_within}
 use Rattle.lus_cli.specs.Programs.{IsOfFile}
-use Rattle.lus_live.specs.Ends.{Opens}
 use Rattle.lus_many.specs.CommandLine.{session_seen, sessions_seen, task_seen}
+use Rattle.lus_many.specs.Ends.{IsReadied}
 use Rattle.lus_many.proofs.EndLemmas.{hosted, session_stays, task_goes, task_ran}
 use Rattle.lus_many.proofs.shell.host_on.Goals as goal
 
@@ -40,7 +40,7 @@ returns-in-None-clause-ends g c =
     let named : node_named (program_of c.in_ok-program.program) c.args.task.node.now ≡ Some c.in-Some.node.0 =
     sym c.node.ensures ∙ ap (option_map _) c.in-Some.is in
     task_ran (ReadFails g.row.D-File.Denot g.D.File.Source.left g.D.File.Source.failures) (g.D.Folder.known c.args.folder.now)
-    (Opens g.row.L.Denot g.L.Log.opens c.args.log.now) (g.S.Source.left c.args.input.now) (g.S.Source.left c.host_in.new.input)
+    (IsReadied g.row.L.Denot g.L.Log.opens g.L.Log.cuts c.args.log.now) (g.S.Source.left c.args.input.now) (g.S.Source.left c.host_in.new.input)
     (change (g.L.Sink.written c.args.log.now) (g.L.Sink.written c.args.log.now) (g.L.Sink.failures c.args.log.now) (g.L.Sink.failures c.args.log.now)) (task_seen c.args.task) (program_of (arc_value c.in-Ok.program)) c.in-Some.node.0
     (change (g.O.Sink.written c.args.output.now) (g.O.Sink.written c.host_in.new.output) (g.O.Sink.failures c.args.output.now) (g.O.Sink.failures c.host_in.new.output))
     (subst (IsOfFile (g.D.Folder.known c.args.folder.now c.args.task.program.now)) same c.in_ok-program.ensures.accepted)
@@ -53,7 +53,7 @@ returns-in-Some-clause-ends g c =
     let named : node_named (program_of c.in_ok-program.program) c.args.task.node.now ≡ Some c.in-Some.node.0 =
     sym c.node.ensures ∙ ap (option_map _) c.in-Some.is in
     task_goes (ReadFails g.row.D-File.Denot g.D.File.Source.left g.D.File.Source.failures) (g.D.Folder.known c.args.folder.now)
-    (Opens g.row.L.Denot g.L.Log.opens c.args.log.now) (g.S.Source.left c.args.input.now) (g.S.Source.left c.go_on.new.input)
+    (IsReadied g.row.L.Denot g.L.Log.opens g.L.Log.cuts c.args.log.now) (g.S.Source.left c.args.input.now) (g.S.Source.left c.go_on.new.input)
     (change (g.L.Sink.written c.args.log.now) (g.L.Sink.written c.go_on.new.log) (g.L.Sink.failures c.args.log.now) (g.L.Sink.failures c.go_on.new.log)) (task_seen c.args.task) (program_of (arc_value c.in-Ok.program)) c.in-Some.node.0
     (change (g.O.Sink.written c.args.output.now) (g.O.Sink.written c.go_on.new.output) (g.O.Sink.failures c.args.output.now) (g.O.Sink.failures c.go_on.new.output))
     (subst (IsOfFile (g.D.Folder.known c.args.folder.now c.args.task.program.now)) same c.in_ok-program.ensures.accepted)
