@@ -1,5 +1,5 @@
 -- The words of a line that is to be a call.
-use Rattle.std.proofs.Common.{◌≡◌, ◌∙◌, ◌++◌, true, false, refl, ap, sym, subst, ◌∷◌, Option, Some, None, arith}
+use Rattle.std.proofs.Common.{◌≡◌, ◌∙◌, ◌++◌, true, false, refl, ap, sym, subst, ◌∷◌, Option, Some, None, option_map, arith}
 use Rattle.std.specs.Borrow.{Bor}
 use Rattle.std.proofs.lemmas.Bool.{true≢false}
 use Rattle.std.proofs.lemmas.Str.Pattern.{IsSplitOnceResult, split_after, split_parts}
@@ -9,6 +9,10 @@ use Rattle.lus_hosting.specs.Turns.{AreCallWords, IsSpelledSo, SplitsCall, calls
 use Rattle.lus_hosting.specs.declared.words.Words.TheVariants as words
 use Rattle.lus_hosting.proofs.AnswerLaws.{named_word}
 use Rattle.lus_hosting.proofs.WordLaws.{words_split}
+
+-- the one caller as plain data
+abbrev pub caller_seen : Option (Bor Text) → Option Text
+caller_seen o = option_map (λ t. t.now) o
 
 -- what stands behind the name of an instance
 abbrev pub behind : Option Text → Text → Text → Text

@@ -1,10 +1,11 @@
 -- In the form that is asked for.
-use Rattle.std.proofs.Common.{◌≡◌, ◌∙◌, ap, subst, option_map, IfOk, OnErr}
+use Rattle.std.proofs.Common.{◌≡◌, ◌∙◌, ap, subst, IfOk, OnErr}
 use Rattle.std.specs.Arc.{arc_value}
 use Rattle.lus_cli.specs.CodeSpecs.Codes.{program_of}
 use Rattle.lus_hosting.specs.LiveSpecs.MachineSpecs.Constructors.{names_of}
 use Rattle.lus_hosting.specs.Spellings.{log_spelling}
 use Rattle.lus_hosting.specs.Turns.{HasHosted, HasHostedSome, calls}
+use Rattle.lus_hosting.proofs.CallLaws.{caller_seen}
 use Rattle.lus_many.proofs.EndLemmas.{spelled_json, spelled_log}
 use Rattle.lus_many.proofs.shell.host_session.Goals as goal
 
@@ -12,7 +13,7 @@ pub returns-then-is_json-clause-all : goal.returns-then-is_json-clause-all
 returns-then-is_json-clause-all g c = λ before keeps.
     (let p = program_of (arc_value c.args.program.now) in
     subst
-    (λ s. IfOk c.host_behind.result (λ score. HasHosted (calls (option_map (λ t. t.now) c.args.caller)) p c.args.node.0 (log_spelling (names_of p)) s before
+    (λ s. IfOk c.host_behind.result (λ score. HasHosted (calls (caller_seen c.args.caller)) p c.args.node.0 (log_spelling (names_of p)) s before
     (g.S.Source.left c.args.input.now) (g.S.Source.left c.host_behind.new.input) (g.L.Sink.written c.args.log.now) (g.L.Sink.written c.host_behind.new.log)
     (g.O.Sink.written c.args.output.now) (g.O.Sink.written c.host_behind.new.output) score))
     (spelled_json _ _ _ _ c.if-is_json.true c.json_lines-teller.ensures) (c.host_behind.ensures.all before keeps))
@@ -21,7 +22,7 @@ pub returns-then-is_json-clause-begun : goal.returns-then-is_json-clause-begun
 returns-then-is_json-clause-begun g c = λ before keeps.
     (let p = program_of (arc_value c.args.program.now) in
     subst
-    (λ s. OnErr c.host_behind.result (HasHostedSome (calls (option_map (λ t. t.now) c.args.caller)) p c.args.node.0 (log_spelling (names_of p)) s before
+    (λ s. OnErr c.host_behind.result (HasHostedSome (calls (caller_seen c.args.caller)) p c.args.node.0 (log_spelling (names_of p)) s before
     (g.S.Source.left c.args.input.now) (g.L.Sink.written c.args.log.now) (g.L.Sink.written c.host_behind.new.log)
     (g.O.Sink.written c.args.output.now) (g.O.Sink.written c.host_behind.new.output)))
     (spelled_json _ _ _ _ c.if-is_json.true c.json_lines-teller.ensures) (c.host_behind.ensures.begun before keeps))
@@ -30,7 +31,7 @@ pub returns-clause-all : goal.returns-clause-all
 returns-clause-all g c = λ before keeps.
     (let p = program_of (arc_value c.args.program.now) in
     subst
-    (λ s. IfOk c.host_behind-else-is_json.result (λ score. HasHosted (calls (option_map (λ t. t.now) c.args.caller)) p c.args.node.0 (log_spelling (names_of p)) s before
+    (λ s. IfOk c.host_behind-else-is_json.result (λ score. HasHosted (calls (caller_seen c.args.caller)) p c.args.node.0 (log_spelling (names_of p)) s before
     (g.S.Source.left c.args.input.now) (g.S.Source.left c.host_behind-else-is_json.new.input) (g.L.Sink.written c.args.log.now) (g.L.Sink.written c.host_behind-else-is_json.new.log)
     (g.O.Sink.written c.args.output.now) (g.O.Sink.written c.host_behind-else-is_json.new.output) score))
     (spelled_log _ _ _ _ c.if-is_json.false
@@ -40,7 +41,7 @@ pub returns-clause-begun : goal.returns-clause-begun
 returns-clause-begun g c = λ before keeps.
     (let p = program_of (arc_value c.args.program.now) in
     subst
-    (λ s. OnErr c.host_behind-else-is_json.result (HasHostedSome (calls (option_map (λ t. t.now) c.args.caller)) p c.args.node.0 (log_spelling (names_of p)) s before
+    (λ s. OnErr c.host_behind-else-is_json.result (HasHostedSome (calls (caller_seen c.args.caller)) p c.args.node.0 (log_spelling (names_of p)) s before
     (g.S.Source.left c.args.input.now) (g.L.Sink.written c.args.log.now) (g.L.Sink.written c.host_behind-else-is_json.new.log)
     (g.O.Sink.written c.args.output.now) (g.O.Sink.written c.host_behind-else-is_json.new.output)))
     (spelled_log _ _ _ _ c.if-is_json.false
