@@ -145,8 +145,8 @@ module _ (reads : Reads) (p : Program) (f : ℕ) (j s : Spelling) (log : List Lo
   read_answered kinds.Replayed line a next = has_turn kinds.Replayed line a next
   read_answered kinds.Noted line a next = has_turn kinds.Noted line a next
   read_answered kinds.Denied line a next = has_turn kinds.Denied line a next
-  read_answered kinds.Wrong line a next = a
-  read_answered kinds.NoEntry line a next = a
+  read_answered kinds.Wrong line a next = (a.0, (a.1, a.2))
+  read_answered kinds.NoEntry line a next = (a.0, (a.1, a.2))
   read_answered kinds.Unfinished line a next = absurd a
   read_answered kinds.Ended line a next = absurd a
 

@@ -42,7 +42,7 @@ text_more names log (j ∷ is) i =
     ap (λ t. line_in names log j ++ t) (text_more names (log ++ entry_in j) is i)
     ∙ sym (append_assoc (line_in names log j) (lines_text names (log ++ entry_in j) is) (line_in names (log_behind (log ++ entry_in j) is) i))
 
-one_entry : (i : LogLine) → length (entry_in i) ≤ 1
+pub one_entry : (i : LogLine) → length (entry_in i) ≤ 1
 one_entry (LogEntry l) = omega arith
 one_entry (LogNote t) = omega arith
 
@@ -60,7 +60,7 @@ abbrev pub AreRead : Names → List Logged → List LogLine → Type 0
 AreRead names log [] = Unit {0}
 AreRead names log (i ∷ is) = IsLineRead names log i × AreRead names (log ++ entry_in i) is
 
-read_more : (names : Names) (log : List Logged) (is : List LogLine) (i : LogLine) → AreRead names log is → IsLineRead names (log_behind log is) i
+pub read_more : (names : Names) (log : List Logged) (is : List LogLine) (i : LogLine) → AreRead names log is → IsLineRead names (log_behind log is) i
     → AreRead names log (is ++ i ∷ [])
 read_more names log [] i all one = (one, tt)
 read_more names log (j ∷ is) i all one = (all.0, read_more names (log ++ entry_in j) is i all.1 one)
@@ -80,7 +80,7 @@ module _ (p : Program) (f : ℕ) (left : Option Bytes) where
     pub entered : entries ≡ length (entries_in lines)
     pub few : entries ≤ turn
 
-  pub audited_start : (instances : Instances) → ((name : Text) → get_by_text instances.by_name name ≡ None) → Audited left instances 0 0
+  unfoldable pub audited_start : (instances : Instances) → ((name : Text) → get_by_text instances.by_name name ≡ None) → Audited left instances 0 0
   audited_start instances new = record {
     lines = [];
     told = tt;
@@ -93,7 +93,7 @@ module _ (p : Program) (f : ℕ) (left : Option Bytes) where
 
   module _ (mid : Option Bytes) (instances : Instances) (turn entries : ℕ) (audited : Audited mid instances turn entries) where
     -- one more line is read
-    with_line : (i : LogLine) (later : Option Bytes) (new : Instances) (more : ℕ) → IsLineRead (names_of p) (entries_in audited.lines) i
+    unfoldable pub with_line : (i : LogLine) (later : Option Bytes) (new : Instances) (more : ℕ) → IsLineRead (names_of p) (entries_in audited.lines) i
         → mid ≡ with_front (line_in (names_of p) (entries_in audited.lines) i) later → Keeps p f (entries_in audited.lines ++ entry_in i) new
         → more ≡ entries + length (entry_in i) → Audited later new (turn + 1) more
     with_line i later new more one read keeps counted =
@@ -123,7 +123,7 @@ module _ (p : Program) (f : ℕ) (left : Option Bytes) where
       finds_as other is = subst (λ k. FindsLine k p f (entries_in audited.lines) mid later line right new) is finds
 
     -- its line is an entry's
-    pub audited_right : (kind : Found) (later : Option Bytes) (line right : Text) (new : Instances)
+    unfoldable pub audited_right : (kind : Found) (later : Option Bytes) (line right : Text) (new : Instances)
         → FindsLine kind p f (entries_in audited.lines) mid later line right new → kind ≡ founds.Right → (more : ℕ) → more ≡ entries + 1
         → Audited later new (turn + 1) more
     audited_right kind later line right new finds kind_is more counted =
@@ -138,7 +138,7 @@ module _ (p : Program) (f : ℕ) (left : Option Bytes) where
         (left.read ∙ ap (λ t. with_front t later) found.1) found.4 counted
 
     -- or a note
-    pub audited_noted : (kind : Found) (later : Option Bytes) (line right : Text) (new : Instances)
+    unfoldable pub audited_noted : (kind : Found) (later : Option Bytes) (line right : Text) (new : Instances)
         → FindsLine kind p f (entries_in audited.lines) mid later line right new → kind ≡ founds.Noted → (more : ℕ) → more ≡ entries
         → Audited later new (turn + 1) more
     audited_noted kind later line right new finds kind_is more counted =

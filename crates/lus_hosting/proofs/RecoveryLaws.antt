@@ -14,7 +14,7 @@ use Rattle.lus_hosting.specs.declared.auditing.Found.{Found}
 use Rattle.lus_hosting.specs.declared.auditing.Found.TheVariants as founds
 use Rattle.lus_hosting.specs.declared.instances.Instances.{Instances}
 use Rattle.lus_hosting.specs.declared.recovering.Recovered.{Recovered}
-use Rattle.lus_hosting.proofs.AuditLaws.{Audited, audited_noted, audited_right, audited_start, finds_as, read_words, text_more}
+use Rattle.lus_hosting.proofs.AuditLaws.{Audited, audited_noted, audited_right, audited_start, finds_as, read_words, text_more, with_line}
 
 module _ (p : Program) (f : ℕ) (left : Option Bytes) where
   pub record ReadSoFar (mid : Option Bytes) (instances : Instances) (turn bytes : ℕ) : Type 0 where
@@ -23,6 +23,7 @@ module _ (p : Program) (f : ℕ) (left : Option Bytes) where
     pub bytes_are : bytes ≡ length (log_text (names_of p) audited.lines)
 
   pub read_start : (instances : Instances) → ((name : Text) → get_by_text instances.by_name name ≡ None) → ReadSoFar left instances 0 0
+  unfolding audited_start
   read_start instances new = record { entries = 0; audited = audited_start p f left instances new; bytes_are = refl }
 
   module _ (mid : Option Bytes) (instances : Instances) (turn bytes : ℕ) (so_far : ReadSoFar mid instances turn bytes) where
@@ -46,6 +47,7 @@ module _ (p : Program) (f : ℕ) (left : Option Bytes) where
       found_as other is = finds_as p f left mid instances turn so_far.entries so_far.audited kind later line right new finds other is
 
       pub read_right : kind ≡ founds.Right → (sum : ℕ) → sum ≡ bytes + length line → ReadSoFar later new (turn + 1) sum
+      unfolding found_as audited_right with_line
       read_right is sum counted =
           let found = found_as founds.Right is in
           let here = found.is in
@@ -56,6 +58,7 @@ module _ (p : Program) (f : ℕ) (left : Option Bytes) where
           }
 
       pub read_noted : kind ≡ founds.Noted → (sum : ℕ) → sum ≡ bytes + length line → ReadSoFar later new (turn + 1) sum
+      unfolding found_as audited_noted with_line
       read_noted is sum counted =
           let found = found_as founds.Noted is in
           let here = found.is in

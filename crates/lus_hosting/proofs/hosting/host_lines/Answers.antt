@@ -1,7 +1,8 @@
 -- A turn is one more of those so far, or ends them.
-use Rattle.std.proofs.Common.{◌≡◌, refl, arith}
+use Rattle.std.proofs.Common.{refl, subst, sym, IfErr, arith}
 use Rattle.std.proofs.lemmas.Result.{err_from_is_err_and}
 use Rattle.lus_devices.proofs.Lines.{on_err}
+use Rattle.lus_hosting.specs.Turns.{StopsBy, reads_seen}
 use Rattle.lus_hosting.proofs.TurnLaws.{failed, so_far_start, stopped, stops_so, turn_called, turn_denied, turn_ended, turn_no_entry, turn_noted, turn_replayed, turn_unfinished, turn_wrong}
 use Rattle.lus_hosting.proofs.hosting.host_lines.Goals as goal
 use Rattle.lus_hosting.proofs.hosting.host_lines.Goals.{in-Called, in-Denied, in-Noted, in-Replayed}
@@ -17,7 +18,7 @@ returns-in_err-take_turn-clause-begun g c = λ before keeps.
 pub returns-in_err-take_turn-clause-stops : goal.returns-in_err-take_turn-clause-stops
 returns-in_err-take_turn-clause-stops g c = λ before keeps.
     (let e = err_from_is_err_and c.from_residual.result c.from_residual.ensures.1 in
-    stops_so _ _ _ e)
+    subst (λ r. IfErr r (StopsBy (reads_seen c.args.lines))) (sym e.1) (stops_so _ _ e.0 e.2))
 
 pub loop-turn-preserved : goal.loop-turn-preserved
 loop-turn-preserved g c =

@@ -23,4 +23,4 @@ returns-in_ok-tell_entry-in-Some g c = λ reads log line utf8 words all keeps.
     (let p = program_of (arc_value c.args.host.program.now) in
     answered_call reads p c.args.host.node.0 _ _ log line _ _ c.call_on.new.instances c.args.words.0.now c.args.words.1.now c.args.words.2.now c.in-Some.request _ _
     utf8 words (subst (IsCallTo p (names_of p) c.args.host.node.0 c.args.words.2.now) c.in-Some.is c.in_ok-request.ensures)
-    (c.in_ok-call_on-in-Some.ensures log keeps) c.in_ok-tell_entry-in-Some.ensures.logged c.in_ok-tell_entry-in-Some.ensures.told)
+    (c.in_ok-number-in-Some.ensures log keeps) c.in_ok-tell_entry-in-Some.ensures.logged c.in_ok-tell_entry-in-Some.ensures.told)

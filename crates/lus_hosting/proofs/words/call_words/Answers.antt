@@ -12,19 +12,19 @@ returns-then-not-is_named-clause-complete c = λ i n k so.
     absurd (instance_named (caller_seen c.args.caller) c.args.line.now c.in-Some.instance c.in-Some.text c.in-Some.ensures.cases i n k so
     (sym c.is_named.ensures ∙ c.if-not-is_named.true))
 
-pub returns-then-not-is_named-in-Some-clause-complete : goal.returns-then-not-is_named-in-Some-clause-complete
-returns-then-not-is_named-in-Some-clause-complete c = λ i n k so.
+pub returns-then-not-is_named-2-clause-complete : goal.returns-then-not-is_named-2-clause-complete
+returns-then-not-is_named-2-clause-complete c = λ i n k so.
     absurd (caller_named (caller_seen c.args.caller) c.args.line.now c.in-Some.instance c.in-Some.text c.in-Some.ensures.cases i n k so
-    c.in-Some-split_call.caller c.in-Some-split_call.call c.in-Some-split_call.ensures (sym c.is_named-in-Some.ensures ∙ c.if-not-is_named-in-Some.true))
+    c.in-Some-split_call.caller c.in-Some-split_call.call c.in-Some-split_call.ensures (sym c.is_named-in-Some-split_call.ensures ∙ c.if-not-is_named-2.true))
 
-pub returns-in-Some-split_call-clause-read : goal.returns-in-Some-split_call-clause-read
-returns-in-Some-split_call-clause-read c =
+pub returns-else-not-is_named-2-clause-read : goal.returns-else-not-is_named-2-clause-read
+returns-else-not-is_named-2-clause-read c =
     call_read (caller_seen c.args.caller) c.args.line.now c.in-Some.instance c.in-Some.text c.in-Some-split_call.caller c.in-Some-split_call.call
     (line_parts (caller_seen c.args.caller) c.args.line.now c.in-Some.instance c.in-Some.text c.in-Some.ensures.cases).0
-    (sym c.is_named.ensures ∙ c.if-not-is_named.false) (sym c.is_named-in-Some.ensures ∙ c.if-not-is_named-in-Some.false) c.in-Some-split_call.ensures
+    (sym c.is_named.ensures ∙ c.if-not-is_named.false) (sym c.is_named-in-Some-split_call.ensures ∙ c.if-not-is_named-2.false) c.in-Some-split_call.ensures
 
-pub returns-in-Some-split_call-clause-complete : goal.returns-in-Some-split_call-clause-complete
-returns-in-Some-split_call-clause-complete c = λ i n k so.
+pub returns-else-not-is_named-2-clause-complete : goal.returns-else-not-is_named-2-clause-complete
+returns-else-not-is_named-2-clause-complete c = λ i n k so.
     call_back (caller_seen c.args.caller) c.args.line.now c.in-Some.instance c.in-Some.text c.in-Some.ensures.cases i n k so
     c.in-Some-split_call.caller c.in-Some-split_call.call c.in-Some-split_call.ensures
 
