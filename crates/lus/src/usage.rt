@@ -72,9 +72,8 @@ Runs a node in a pipe: reads calls from standard input, a line of JSON each, and
 journal's entry of each, by the caller NAME or `user`, before it reads the next; with --json its
 reply as JSON. With --csv it reads inputs as CSV below a line of their names, and writes outputs
 so. It goes on behind JOURNAL, replayed first: `lus_live PROGRAM NODE log < calls >> log`, also
-after any kill; with --json it writes each entry to JOURNAL itself, and then the reply. With
---many it hosts many instances: a line is INSTANCE CALLER CALL, or an entry to replay. With LOG it
-goes on in that file, replayed first: each entry is there before its answer, and lines are calls.
+after any kill; with --json it writes each entry to JOURNAL itself, and then the reply, as with
+--many to LOG. With --many a line is INSTANCE CALLER CALL, or without LOG an entry to replay.
 
   [18, 19, 22]                 a step with the inputs in their order, null for an absent one
   {\"inputs\": {\"low\": 19, ..}}  a step with the inputs by their names
