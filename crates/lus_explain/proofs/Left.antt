@@ -16,7 +16,7 @@ use Rattle.lus_reports.specs.Verdicts as verdicts
 use Rattle.lus_reports.specs.Verdicts.{AreJudged, IsVerdict, Named, Said, SaysRefused, are_judged, are_refused, are_scripts, is_accepted, named}
 use Rattle.lus_explain.specs.Lines as lines
 use Rattle.lus_explain.specs.Lines.{AreJudgedInLines, IsVerdictAs, IsVerdictInLines}
-use Rattle.lus_explain.specs.Warned.{IsToldAs, IsWarned}
+use Rattle.lus_explain.specs.Warned.{IsToldAs, IsWarned, may_add}
 use Rattle.lus_explain.specs.declared.words.Form.{Form}
 use Rattle.lus_explain.specs.Skeletons as skeletons
 use Rattle.lus_explain.specs.Skeletons.{IsAnswer, is_of}
@@ -98,13 +98,13 @@ module _ (m n : ℕ) (is : m ≡ most_bytes) (next : n ≡ m + 1) (bytes left : 
   pub told_left : (form : Form) (name : Text) (said : Said) (scripts : Option Named) → IsToldAs form (named name bytes) said scripts
       → IsToldAs form (named name left) said scripts
   told_left form name said scripts =
-      warned_then form.warns (λ before. IsVerdictAs form.is_json (named name bytes) before scripts)
+      warned_then (may_add form scripts) (λ before. IsVerdictAs form.is_json (named name bytes) before scripts)
       (λ before. IsVerdictAs form.is_json (named name left) before scripts) (λ before. said_left form.is_json name before scripts) said
 
   pub scripts_told_left : (form : Form) (program : Named) (name : Text) (said : Said) → IsToldAs form program said (Some (named name bytes))
       → IsToldAs form program said (Some (named name left))
   scripts_told_left form program name said =
-      warned_then form.warns (λ before. IsVerdictAs form.is_json program before (Some (named name bytes)))
+      warned_then (may_add form (Some (named name bytes))) (λ before. IsVerdictAs form.is_json program before (Some (named name bytes)))
       (λ before. IsVerdictAs form.is_json program before (Some (named name left))) (λ before. scripts_said_left form.is_json program name before) said
 
   pub answer_left : (name node : Text) {s : Script} → IsAnswer (named name bytes) node s → IsAnswer (named name left) node s

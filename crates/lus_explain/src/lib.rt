@@ -3,6 +3,7 @@
 #![tactic(auto)]
 
 mod lines;
+mod notes;
 mod script;
 mod shell;
 mod warned;

@@ -46,11 +46,11 @@ fn refused_program(alloc: Global, program: File<'_>, refusal: &Refusal) -> Resul
 }
 
 /// What is wrong with scripts, in a sentence.
-fn message_of(alloc: Global, complaint: Complaint) -> Result<String, AllocError> {
+fn message_of(alloc: Global, complaint: &Complaint) -> Result<String, AllocError> {
     let meaning = meaning_of(complaint.refusal);
-    match complaint.finding {
+    match &complaint.finding {
         Some(finding) => {
-            let wanted = finding.check.sentence();
+            let wanted = finding.sentence();
             format!(in alloc; "{meaning}: {wanted}")
         }
         None => String::from_str(alloc, meaning),
@@ -58,8 +58,8 @@ fn message_of(alloc: Global, complaint: Complaint) -> Result<String, AllocError>
 }
 
 /// The members of an object that say where scripts fail: where it begins and ends in their bytes, or the place in their JSON.
-fn place_of(alloc: Global, complaint: Complaint) -> Result<String, AllocError> {
-    let Some(finding) = complaint.finding else {
+fn place_of(alloc: Global, complaint: &Complaint) -> Result<String, AllocError> {
+    let Some(finding) = &complaint.finding else {
         return Ok(String::new(alloc));
     };
     match finding.found {
@@ -73,8 +73,8 @@ fn place_of(alloc: Global, complaint: Complaint) -> Result<String, AllocError> {
 }
 
 /// The line of a refusal of scripts.
-fn scripts_line(alloc: Global, file: &str, complaint: Complaint) -> Result<String, AllocError>
-    ensures { IfOk result (λ line. SaysComplaint file.now complaint.refusal (string_bytes line)) }
+fn scripts_line(alloc: Global, file: &str, complaint: &Complaint) -> Result<String, AllocError>
+    ensures { IfOk result (λ line. SaysComplaint file.now complaint.now.refusal (string_bytes line)) }
 {
     let message = message_of(alloc, complaint)?;
     let place = place_of(alloc, complaint)?;
@@ -97,7 +97,7 @@ fn refused_scripts(alloc: Global, file: &str, complaint: Complaint) -> Result<Ve
     if complaint.refusal == ScriptRefusal::Memory {
         return Err(Fault::Memory);
     }
-    match scripts_line(alloc, file, complaint) {
+    match scripts_line(alloc, file, &complaint) {
         Ok(text) => Ok(Verdict { text, status: 2 }),
         Err(_) => Err(Fault::Memory),
     }

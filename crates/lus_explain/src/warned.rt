@@ -1,11 +1,12 @@
-//! Warnings of a program that is accepted, behind what is said of it.
+//! Notes on scripts and warnings of a program, where both are accepted, behind what is said of them.
 
 ghost use Rattle.std.specs.Prelude.{◌≡◌, ◌≢◌, [], IfErr, IfOk, option_map, string_bytes};
 ghost use Rattle.lus_reports.specs.CliSpecs.declared.fault.Fault.TheVariants as faults;
 ghost use Rattle.lus_reports.specs.Verdicts.{file_seen, verdict_seen};
-ghost use Rattle.lus_explain.specs.Warned.{AddsText, AddsWarnings, IsToldAs};
+ghost use Rattle.lus_explain.specs.Warned.{AddsText, AddsWarnings, IsToldAs, may_add};
 
 use crate::lines::judge_as;
+use crate::notes::notes_of;
 use crate::words::Form;
 use lus_json_faults::lus_warnings::{Warning, push_warnings, warnings_of};
 use lus_json_faults::warning_lines;
@@ -80,11 +81,44 @@ fn warnings_text(
     Ok(told(alloc, is_json, program.name, source, &warnings)?)
 }
 
-/// What is told of warnings behind a verdict of this status: nothing where something is refused.
+/// What is told of steps of accepted scripts that their nodes refuse whatever comes before.
+fn notes_text(
+    alloc: Global,
+    is_json: bool,
+    program: File<'_>,
+    scripts: File<'_>,
+) -> Result<String, Refusal> {
+    if let Ok(accepted) = explain(alloc, program.bytes) {
+        if let Ok(found) = explain_scripts(alloc, &accepted, scripts.bytes) {
+            return Ok(notes_of(alloc, is_json, scripts.name, &accepted, &found)?);
+        }
+    }
+    Ok(String::new(alloc))
+}
+
+/// What is told of notes and warnings of what is accepted.
+fn accepted_text(
+    alloc: Global,
+    form: Form,
+    program: File<'_>,
+    scripts: Option<File<'_>>,
+) -> Result<String, Refusal> {
+    let mut text = match scripts {
+        Some(file) => notes_text(alloc, form.is_json, program, file)?,
+        None => String::new(alloc),
+    };
+    if form.warns {
+        let warnings = warnings_text(alloc, form.is_json, program, scripts)?;
+        text.push_str(warnings.as_str())?;
+    }
+    Ok(text)
+}
+
+/// What is told behind a verdict of this status: nothing where something is refused.
 fn text_behind(
     alloc: Global,
     status: u8,
-    is_json: bool,
+    form: Form,
     program: File<'_>,
     scripts: Option<File<'_>>,
 ) -> Result<String, Refusal>
@@ -93,7 +127,7 @@ fn text_behind(
     if status != 0 {
         return Ok(String::new(alloc));
     }
-    warnings_text(alloc, is_json, program, scripts)
+    accepted_text(alloc, form, program, scripts)
 }
 
 /// A verdict with more text behind it.
@@ -107,10 +141,10 @@ fn with_more(mut verdict: Verdict, more: &str) -> Result<Verdict, Fault>
     }
 }
 
-/// A verdict, with the warnings behind it where all is accepted.
+/// A verdict, with notes and warnings behind it where all is accepted.
 fn with_warnings(
     alloc: Global,
-    is_json: bool,
+    form: Form,
     program: File<'_>,
     scripts: Option<File<'_>>,
     verdict: Verdict,
@@ -118,10 +152,17 @@ fn with_warnings(
     ensures warned { IfOk result (λ v. AddsWarnings (verdict_seen verdict) (verdict_seen v)) }
     ensures memory { IfErr result (λ f. f ≡ faults.Memory) }
 {
-    match text_behind(alloc, verdict.status, is_json, program, scripts) {
+    match text_behind(alloc, verdict.status, form, program, scripts) {
         Ok(more) => with_more(verdict, more.as_str()),
         Err(_) => Err(Fault::Memory),
     }
+}
+
+/// Whether there may be more behind a verdict: notes on scripts, or warnings.
+fn may_add(form: Form, scripts: Option<File<'_>>) -> bool
+    ensures { result ≡ may_add form (option_map file_seen scripts.entry) }
+{
+    form.warns || scripts.is_some()
 }
 
 /// Of a program, and of scripts for it if there are any, in the form that is asked for.
@@ -135,8 +176,9 @@ pub fn judge_told(
     ensures memory { IfErr result (λ f. f ≡ faults.Memory) }
 {
     let verdict = judge_as(alloc, form.is_json, program, scripts)?;
-    if form.warns {
-        with_warnings(alloc, form.is_json, program, scripts, verdict)
+    let adds = may_add(form, scripts);
+    if adds {
+        with_warnings(alloc, form, program, scripts, verdict)
     } else {
         Ok(verdict)
     }

@@ -7,6 +7,7 @@ ghost use Rattle.lus_reactions.specs.Reactions.{IsCallTo};
 use lus_devices::{Sink, write_all};
 use lus_play::Calls;
 use lus_program::{NodeId, Program};
+use lus_refusals::lus_culprits::{explain_call, general_sentence};
 use lus_refusals::note_of;
 use lus_requests::{Entry, Request};
 use lus_scripts::{ScriptRefusal, read_request};
@@ -22,23 +23,6 @@ pub struct JsonCalls<'p> {
     pub node: NodeId,
 }
 
-/// Why a value of JSON is no call, by how it begins.
-fn no_call(line: &[u8]) -> &'static str
-    ensures { IsPlain result.now }
-{
-    for byte in line {
-        match *byte {
-            b' ' | b'\t' | b'\r' => (),
-            b'[' =>
-                return "an input is a whole number in range, true, false, null, the name of a constructor, or an object of fields",
-            b'{' =>
-                return "a call has one of inputs (an object by their names), step, burst, reset, save and restore",
-            _ => return "a call is a list of inputs or an object",
-        }
-    }
-    "a call is a list of inputs or an object"
-}
-
 impl JsonCalls<'_> {
     /// What is wrong with a line that is no call, in a sentence without a line feed.
     pub fn reason(&self, line: &[u8]) -> &'static str
@@ -47,7 +31,7 @@ impl JsonCalls<'_> {
         match read_request(self.alloc, self.program, self.names, self.node, line) {
             Err(ScriptRefusal::Json) => "it is no value of JSON",
             Err(ScriptRefusal::Memory) => "out of memory",
-            _ => no_call(line),
+            _ => general_sentence(line),
         }
     }
 }
@@ -64,7 +48,14 @@ impl Calls for JsonCalls<'_> {
     }
 
     fn explain<F: Sink>(&self, line: &[u8], faults: &mut F) {
-        let _ = write_all(faults, self.reason(line).as_bytes());
+        match explain_call(self.alloc, self.program, self.names, self.node, line) {
+            Ok(sentence) => {
+                let _ = write_all(faults, sentence.as_bytes());
+            }
+            Err(Memory) => {
+                let _ = write_all(faults, b"out of memory");
+            }
+        }
     }
 
     fn remark<F: Sink>(&self, line: u64, entry: &Entry, faults: &mut F) {

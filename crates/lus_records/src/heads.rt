@@ -10,6 +10,7 @@ use indexmap::IndexSet;
 use lus_devices::{Sink, Source, write_all};
 use lus_lines::{Reading, read_line};
 use lus_play::PlayError;
+use lus_refusals::lus_culprits::{names_of, push_name, push_names, push_unknown, sentence};
 use lus_values::Memory;
 use std::alloc::Global;
 
@@ -98,44 +99,72 @@ fn head_in(
     head_of(alloc, columns, &names)
 }
 
-/// Why these names are no head. What can't be written changes nothing.
-fn tell_names<F: Sink>(columns: &[String], names: &[&[u8]], faults: &mut F) {
+/// Appends which of these names is no column's, or stands twice.
+fn push_columns(
+    text: &mut String,
+    alloc: Global,
+    columns: &[String],
+    names: &[&[u8]],
+) -> Result<(), Memory> {
     for (place, name) in names.iter().enumerate() {
-        let is_known = known(columns, *name).is_some();
-        if !is_known || names[..place].contains(name) {
-            let _ = write_all(faults, b"\"");
-            let _ = write_all(faults, *name);
-            let _ = write_all(
-                faults,
-                if is_known {
-                    b"\" stands there twice"
-                } else {
-                    b"\" is no input's column"
-                },
-            );
-            return;
+        let given = String::from_utf8_lossy(alloc, *name)?;
+        if known(columns, *name).is_none() {
+            let all = names_of(alloc, columns)?;
+            return push_unknown(text, alloc, "no input has the column ", &given, "; the columns are ", &all);
+        }
+        if names[..place].contains(name) {
+            text.push_str("the column ")?;
+            push_name(text, &given)?;
+            text.push_str(" stands there twice")?;
+            return Ok(());
         }
     }
+    Ok(())
 }
 
-/// Why a line is no head.
-fn explain_line<F: Sink>(alloc: Global, columns: &[String], line: &[u8], faults: &mut F) {
-    match record_of(alloc, line) {
-        Ok(Some(record)) => {
-            if let Ok(names) = cells_of(alloc, &record) {
-                tell_names(columns, &names, faults);
-            }
+/// Appends why a line is no head.
+fn push_line(
+    text: &mut String,
+    alloc: Global,
+    columns: &[String],
+    line: &[u8],
+) -> Result<(), Memory> {
+    match record_of(alloc, line)? {
+        Some(record) => {
+            let names = cells_of(alloc, &record)?;
+            push_columns(text, alloc, columns, &names)
         }
-        Ok(None) => {
-            let _ = write_all(faults, b"it is more than one record");
-        }
-        Err(Memory) => {
-            let _ = write_all(faults, b"out of memory");
+        None => {
+            text.push_str("it is more than one record")?;
+            Ok(())
         }
     }
 }
 
 /// Why what was read is no head.
+fn reason(
+    alloc: Global,
+    columns: &[String],
+    reading: Reading,
+    line: &[u8],
+) -> Result<String, Memory> {
+    let mut text = String::new(alloc);
+    match reading {
+        Reading::Line => push_line(&mut text, alloc, columns, line)?,
+        Reading::Long => text.push_str("it has more bytes than a line may have")?,
+        Reading::Unfinished => text.push_str("the input ends in the middle of it")?,
+        Reading::End => {
+            text.push_str("the input is empty, and its first line has names of columns")?;
+            if !columns.is_empty() {
+                text.push_str(": ")?;
+                push_names(&mut text, &names_of(alloc, columns)?)?;
+            }
+        }
+    }
+    sentence(alloc, &text, "it has a name that is no column")
+}
+
+/// Writes why what was read is no head. What can't be written changes nothing.
 fn explain<F: Sink>(
     alloc: Global,
     columns: &[String],
@@ -144,19 +173,12 @@ fn explain<F: Sink>(
     faults: &mut F,
 ) {
     let _ = write_all(faults, b"error S2 line 1: ");
-    match reading {
-        Reading::Line => explain_line(alloc, columns, line, faults),
-        Reading::Long => {
-            let _ = write_all(faults, b"it has more bytes than a line may have");
+    match reason(alloc, columns, reading, line) {
+        Ok(text) => {
+            let _ = write_all(faults, text.as_bytes());
         }
-        Reading::Unfinished => {
-            let _ = write_all(faults, b"the input ends in the middle of it");
-        }
-        Reading::End => {
-            let _ = write_all(
-                faults,
-                b"there is none, and the first has the names of inputs",
-            );
+        Err(Memory) => {
+            let _ = write_all(faults, b"out of memory");
         }
     }
     let _ = write_all(faults, b"\n");

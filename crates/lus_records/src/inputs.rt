@@ -34,7 +34,7 @@ fn place_of(head: &IndexSet<String>, name: &str) -> Option<usize>
 
 impl<'r> Cells<'r> {
     /// The cell under a name: an empty one, where the head lacks the name.
-    fn cell(&self, name: &str) -> &'r [u8]
+    pub(crate) fn cell(&self, name: &str) -> &'r [u8]
         ensures { result.now ≡ cell_seen self.now name.now }
     {
         let Some(place) = place_of(self.head, name) else {
@@ -204,4 +204,35 @@ pub(crate) fn read_row(
         Some(items) => Ok(Some(Row::new(items))),
         None => Ok(None),
     }
+}
+
+/// The first field of a structure type whose cells are no value, where a column is of that type.
+pub(crate) fn wrong_field<'p>(
+    alloc: Global,
+    program: &'p Program,
+    names: &Names,
+    cells: &Cells<'_>,
+    kind: Kind,
+    column: &str,
+) -> Result<Option<&'p Field>, Memory> {
+    let Some(fields) = fields_at(program, kind) else {
+        return Ok(None);
+    };
+    for field in fields {
+        let name = field_column(alloc, column, field.name.as_str())?;
+        let value = read_value(alloc, program, names, cells, MOST_NESTING, field.kind, &name)?;
+        if value.is_none() {
+            return Ok(Some(field));
+        }
+    }
+    Ok(None)
+}
+
+/// The names of a head, in their order.
+pub(crate) fn column_names(alloc: Global, head: &IndexSet<String>) -> Result<Vec<&str>, Memory> {
+    let mut names = Vec::new(alloc);
+    for name in head.iter() {
+        names.push(name.as_str())?;
+    }
+    Ok(names)
 }

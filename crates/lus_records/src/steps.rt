@@ -6,12 +6,14 @@ ghost use Rattle.lus_requests.specs.declared.request.Request.TheVariants.{Step};
 ghost use Rattle.lus_records.specs.Records.{row_of, step_in};
 
 use crate::cells::{cells_of, record_of};
-use crate::inputs::{Cells, read_item, read_row};
+use crate::columns::field_column;
+use crate::inputs::{Cells, column_names, read_item, read_row, wrong_field};
 use indexmap::IndexSet;
-use itoa::Buffer;
 use lus_devices::{Sink, write_all};
 use lus_program::{Program, Variable};
+use lus_refusals::lus_culprits::{push_cell, push_count, sentence};
 use lus_requests::Request;
+use lus_syntax::MOST_NESTING;
 use lus_values::{Memory, Names};
 use std::alloc::Global;
 
@@ -54,38 +56,73 @@ pub(crate) fn step_in(
     step_of(alloc, program, names, inputs, head, &cells)
 }
 
-fn write_count<F: Sink>(faults: &mut F, count: usize) {
-    let mut digits = Buffer::new();
-    let _ = write_all(faults, digits.format(count).as_bytes());
+/// Appends where the cells of an input, which are no value, are none: at the column of a field, or at its own.
+fn push_input(
+    text: &mut String,
+    alloc: Global,
+    program: &Program,
+    names: &Names,
+    cells: &Cells<'_>,
+    input: &Variable,
+) -> Result<(), Memory> {
+    let mut column = String::from_str(alloc, input.name.as_str())?;
+    let mut kind = input.kind;
+    for _level in 0..MOST_NESTING {
+        let found = wrong_field(alloc, program, names, cells, kind, &column)?;
+        let Some(field) = found else {
+            break;
+        };
+        column = field_column(alloc, &column, field.name.as_str())?;
+        kind = field.kind;
+    }
+    push_cell(text, alloc, program, &column, kind, cells.cell(&column))
 }
 
-/// Why cells are no step. What can't be written changes nothing.
-fn explain_cells<F: Sink>(
+/// Appends why cells are no step.
+fn push_cells(
+    text: &mut String,
     alloc: Global,
     program: &Program,
     names: &Names,
     inputs: &[Variable],
     cells: &Cells<'_>,
-    faults: &mut F,
-) {
+) -> Result<(), Memory> {
     if cells.cells.len() != cells.head.len() {
-        let _ = write_all(faults, b"its cells are ");
-        write_count(faults, cells.cells.len());
-        let _ = write_all(faults, b", and the head's ");
-        write_count(faults, cells.head.len());
-        return;
+        let columns = column_names(alloc, cells.head)?;
+        return push_count(text, cells.cells.len(), "cell", "column", &columns);
     }
     for input in inputs {
-        if let Ok(None) = read_item(alloc, program, names, cells, input) {
-            let _ = write_all(faults, b"what it has for ");
-            let _ = write_all(faults, input.name.as_bytes());
-            let _ = write_all(faults, b" is no value");
-            return;
+        let item = read_item(alloc, program, names, cells, input)?;
+        if item.is_none() {
+            return push_input(text, alloc, program, names, cells, input);
         }
     }
+    Ok(())
 }
 
 /// Why a line is no step.
+fn reason(
+    alloc: Global,
+    program: &Program,
+    names: &Names,
+    inputs: &[Variable],
+    head: &IndexSet<String>,
+    line: &[u8],
+) -> Result<String, Memory> {
+    let Some(record) = record_of(alloc, line)? else {
+        return Ok(String::from_str(alloc, "it is more than one record")?);
+    };
+    let cells = cells_of(alloc, &record)?;
+    let cells = Cells {
+        head,
+        cells: &cells,
+    };
+    let mut text = String::new(alloc);
+    push_cells(&mut text, alloc, program, names, inputs, &cells)?;
+    sentence(alloc, &text, "its cells are no values of the inputs")
+}
+
+/// Writes why a line is no step. What can't be written changes nothing.
 pub(crate) fn explain<F: Sink>(
     alloc: Global,
     program: &Program,
@@ -95,18 +132,9 @@ pub(crate) fn explain<F: Sink>(
     line: &[u8],
     faults: &mut F,
 ) {
-    match record_of(alloc, line) {
-        Ok(Some(record)) => {
-            if let Ok(cells) = cells_of(alloc, &record) {
-                let cells = Cells {
-                    head,
-                    cells: &cells,
-                };
-                explain_cells(alloc, program, names, inputs, &cells, faults);
-            }
-        }
-        Ok(None) => {
-            let _ = write_all(faults, b"it is more than one record");
+    match reason(alloc, program, names, inputs, head, line) {
+        Ok(text) => {
+            let _ = write_all(faults, text.as_bytes());
         }
         Err(Memory) => {
             let _ = write_all(faults, b"out of memory");

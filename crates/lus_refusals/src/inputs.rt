@@ -1,44 +1,14 @@
-//! Inputs that a node doesn't take: of another shape, or present where their clock isn't.
+//! Inputs that aren't present exactly where their clocks are.
 
-use crate::types::{is_of, push_test, push_type};
-use lus_program::{Node, Program, Test};
-use lus_values::{Memory, Names, Row, Value, push_value};
+use lus_culprits::push_name;
+use lus_program::{Kind, Node, Test};
+use lus_values::{Memory, Names, Row, Value};
 
 fn name_of(node: &Node, variable: usize) -> &str {
     match node.variables.get(variable) {
         Some(found) => found.name.as_str(),
         None => "?",
     }
-}
-
-/// Appends which input has a value of another type, or that they are too many or too few.
-pub(crate) fn push_shape(
-    text: &mut String,
-    program: &Program,
-    names: &Names,
-    node: &Node,
-    inputs: &Row,
-) -> Result<(), Memory> {
-    let given = inputs.items().len();
-    let wanted = node.inputs as usize;
-    if given != wanted {
-        write!(text, "{given} items are given, for {wanted} inputs")?;
-        return Ok(());
-    }
-    for (variable, item) in node.variables.iter().zip(inputs.items()) {
-        if let Some(value) = item
-            && !is_of(program, variable.kind, value)
-        {
-            let name = variable.name.as_str();
-            write!(text, "input {name} is ")?;
-            push_type(text, program, variable.kind)?;
-            text.push_str(", and ")?;
-            push_value(text, value, names)?;
-            text.push_str(" is given")?;
-            return Ok(());
-        }
-    }
-    Ok(())
 }
 
 fn holds(value: &Value, constructor: u32) -> bool {
@@ -71,6 +41,27 @@ fn is_on(node: &Node, inputs: &Row, input: usize) -> bool {
 /// The test of a variable's own clock, if it has one.
 fn test_of(node: &Node, variable: usize) -> Option<Test> {
     node.variables.get(variable)?.test
+}
+
+/// Appends the text of a test on a variable of a name: `c`, `not c` or `A(c)`.
+fn push_test(
+    text: &mut String,
+    names: &Names,
+    kind: Kind,
+    constructor: u32,
+    name: &str,
+) -> Result<(), Memory> {
+    match kind {
+        Kind::Enum(enumeration) => {
+            let constructor = names.name(enumeration, constructor).unwrap_or("?");
+            write!(text, "{constructor}({name})")?;
+        }
+        _ => {
+            text.push_str(if constructor == 0 { "not " } else { "" })?;
+            text.push_str(name)?;
+        }
+    }
+    Ok(())
 }
 
 /// Appends a test of a node.
@@ -116,12 +107,12 @@ pub(crate) fn push_presence(
     for (input, item) in inputs.items().iter().enumerate() {
         let wanted = is_on(node, inputs, input);
         if item.is_some() != wanted {
-            let name = name_of(node, input);
-            write!(text, "input {name} ")?;
+            text.push_str("input ")?;
+            push_name(text, name_of(node, input))?;
             text.push_str(if wanted {
-                "is absent, and should be there: "
+                " is absent, and should be there: "
             } else {
-                "is given, and should be absent: "
+                " is given, and should be absent: "
             })?;
             return push_clock(text, names, node, input);
         }

@@ -3,6 +3,6 @@
 
 mod inputs;
 mod refusals;
-mod types;
 
-pub use refusals::{note_of, push_refusal, why_word};
+pub use lus_culprits;
+pub use refusals::{note_of, push_refusal, push_unfit, why_word};

@@ -1,6 +1,7 @@
 //! Why requests were refused, as far as the request alone shows it.
 
-use crate::inputs::{push_presence, push_shape};
+use crate::inputs::push_presence;
+use lus_culprits::push_shape;
 use lus_program::Program;
 use lus_requests::{Entry, Reply, Request, Why};
 use lus_values::{Memory, Names, Row};
@@ -23,6 +24,7 @@ pub fn why_word(why: Why) -> &'static str {
 /// Appends the reason of a row's refusal that isn't for a fault.
 fn push_row_reason(
     text: &mut String,
+    alloc: Global,
     program: &Program,
     names: &Names,
     node: usize,
@@ -30,7 +32,7 @@ fn push_row_reason(
     inputs: &Row,
 ) -> Result<(), Memory> {
     match (program.nodes.get(node), why) {
-        (Some(found), Why::Shape) => push_shape(text, program, names, found, inputs),
+        (Some(found), Why::Shape) => push_shape(text, alloc, program, names, found, inputs),
         (Some(found), Why::Presence) => push_presence(text, names, found, inputs),
         _ => Ok(()),
     }
@@ -51,7 +53,7 @@ fn push_rows_reason(
     for inputs in rows {
         row = row.saturating_add(1);
         let mut reason = String::new(alloc);
-        push_row_reason(&mut reason, program, names, node, why, inputs)?;
+        push_row_reason(&mut reason, alloc, program, names, node, why, inputs)?;
         if !reason.is_empty() {
             if is_burst {
                 write!(text, "row {row}, ")?;
@@ -95,6 +97,33 @@ pub fn push_refusal(
             write!(text, "there is no slot {slot}, slots are 0 to 7")?;
         }
         (Request::Reset, _) => {}
+    }
+    Ok(())
+}
+
+/// Appends why the inputs of a request are refused whatever came before: for their shape, or else for their presence. Where they aren't,
+/// it appends nothing.
+pub fn push_unfit(
+    text: &mut String,
+    alloc: Global,
+    program: &Program,
+    names: &Names,
+    node: usize,
+    request: &Request,
+) -> Result<(), Memory> {
+    for why in [Why::Shape, Why::Presence] {
+        let mut reason = String::new(alloc);
+        match request {
+            Request::Step(_) | Request::Burst(_) => {
+                push_refusal(&mut reason, alloc, program, names, node, request, why)?;
+            }
+            Request::Reset | Request::Save(_) | Request::Restore(_) => {}
+        }
+        if !reason.is_empty() {
+            let word = why_word(why);
+            write!(text, "refused {word}: {reason}")?;
+            return Ok(());
+        }
     }
     Ok(())
 }

@@ -10,11 +10,12 @@ pub enum Found {
     Json(Spot),
 }
 
-/// A check that fails, and where.
-#[derive(Clone, Copy)]
+/// A check that fails, where, and what is wrong there, where more of it is known than the check.
+#[derive(Drop)]
 pub struct Finding {
     pub found: Option<Found>,
     pub check: Check,
+    pub culprit: Option<String>,
 }
 
 impl Finding {
@@ -23,6 +24,24 @@ impl Finding {
         Finding {
             found: Some(Found::Json(spot)),
             check,
+            culprit: None,
+        }
+    }
+
+    /// A check that fails at a place of the JSON, and what is wrong there.
+    pub(crate) fn of(spot: Spot, check: Check, culprit: String) -> Finding {
+        Finding {
+            found: Some(Found::Json(spot)),
+            check,
+            culprit: Some(culprit),
+        }
+    }
+
+    /// What is wrong, in a sentence.
+    pub fn sentence(&self) -> &str {
+        match &self.culprit {
+            Some(culprit) => culprit.as_str(),
+            None => self.check.sentence(),
         }
     }
 }

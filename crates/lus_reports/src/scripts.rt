@@ -10,18 +10,19 @@ ghost use Rattle.lus_scripts.specs.View.{scripts_seen};
 use crate::check::Check;
 use crate::finding::{Finding, Found};
 use crate::form::wrong_form;
-use crate::json::fault_at;
 use crate::known::{doubled_name, too_many, unknown_name};
 use crate::value::wrong_value;
 use lus_cli::lus_host::Program;
 use lus_cli::script_text;
+use lus_culprits::{fault_at, push_unexpected, sentence};
 use lus_scripts::{ScriptRefusal, Scripts, read_scripts};
 use lus_syntax::{MOST_BYTES, Place, place_behind};
+use lus_values::Memory;
 use serde_json::Value;
 use std::alloc::{AllocError, Global};
 
 /// A refusal of scripts, and the check that failed with its place, where they are found again.
-#[derive(Clone, Copy)]
+#[derive(Drop)]
 pub struct Complaint {
     pub refusal: ScriptRefusal,
     pub finding: Option<Finding>,
@@ -47,6 +48,7 @@ fn find(alloc: Global, program: &Program, bytes: &[u8], refusal: ScriptRefusal) 
         return Some(Finding {
             found: None,
             check: Check::Size,
+            culprit: None,
         });
     }
     match Value::from_slice(alloc, bytes) {
@@ -54,6 +56,13 @@ fn find(alloc: Global, program: &Program, bytes: &[u8], refusal: ScriptRefusal) 
         Err(error) if error.is_memory() => None,
         Err(error) => no_json(alloc, bytes, error.line(), error.column()),
     }
+}
+
+/// What stands in bytes behind the front that JSON may begin with.
+fn unexpected(alloc: Global, front: &[u8], rest: &[u8]) -> Result<String, Memory> {
+    let mut text = String::new(alloc);
+    push_unexpected(&mut text, alloc, front, rest)?;
+    sentence(alloc, &text, "unexpected character")
 }
 
 /// Where bytes stop being JSON, whose reader stopped at this line and column.
@@ -65,9 +74,15 @@ fn no_json(alloc: Global, bytes: &[u8], line: usize, column: usize) -> Option<Fi
         Check::Json
     };
     let Place { line, column, .. } = place_behind(&bytes[..offset]);
+    let culprit = if offset < bytes.len() {
+        unexpected(alloc, &bytes[..offset], &bytes[offset..]).ok()
+    } else {
+        None
+    };
     Some(Finding {
         found: Some(Found::Bytes { line, column }),
         check,
+        culprit,
     })
 }
 
@@ -85,7 +100,7 @@ fn find_in(
         },
         ScriptRefusal::Limit => too_many(scripts),
         ScriptRefusal::Double => doubled_name(scripts),
-        ScriptRefusal::Unknown => unknown_name(program, scripts),
+        ScriptRefusal::Unknown => unknown_name(alloc, program, scripts).unwrap_or(None),
         ScriptRefusal::Json | ScriptRefusal::Memory => None,
     }
 }
@@ -150,13 +165,17 @@ fn complaint_text(
 }
 
 /// All that is said of a refusal of the scripts of this name: where and what, and the check that failed.
-pub fn report_scripts(alloc: Global, name: &str, complaint: Complaint) -> Result<String, AllocError>
-    ensures { IfOk result (λ text. SaysRefusal name.now complaint.refusal (string_bytes text)) }
+pub fn report_scripts(
+    alloc: Global,
+    name: &str,
+    complaint: &Complaint,
+) -> Result<String, AllocError>
+    ensures { IfOk result (λ text. SaysRefusal name.now complaint.now.refusal (string_bytes text)) }
 {
     let refusal = complaint.refusal;
-    match complaint.finding {
+    match &complaint.finding {
         Some(finding) => {
-            let wanted = finding.check.sentence();
+            let wanted = finding.sentence();
             complaint_text(alloc, name, refusal, finding.found, Some(wanted))
         }
         None => complaint_text(alloc, name, refusal, None, None),

@@ -6,7 +6,9 @@ use crate::form::{items_at, text_at};
 use crate::known::place_named;
 use crate::spot::Spot;
 use lus_cli::lus_host::{Formal, Program};
-use lus_scripts::{ScriptRefusal, as_list, read_item};
+use lus_culprits::{Scope, push_placed, refused_place, sentence};
+use lus_scripts::as_list;
+use lus_values::Memory;
 use serde_json::Value;
 use std::alloc::Global;
 
@@ -32,41 +34,29 @@ fn inputs_named<'p>(program: &'p Program, node: &str) -> &'p [Formal] {
     }
 }
 
-/// The place of the first item of a row that is no value.
-fn wrong_item(
-    alloc: Global,
-    program: &Program,
-    inputs: &[Formal],
-    items: &[Value],
-) -> Result<Option<usize>, ScriptRefusal> {
-    for (place, item) in items.iter().enumerate() {
-        let kind = match inputs.get(place) {
-            Some(input) => Some(input.kind),
-            None => None,
-        };
-        match read_item(alloc, program.source(), program.names(), kind, item) {
-            Ok(_) => {}
-            Err(ScriptRefusal::Form) => return Ok(Some(place)),
-            Err(refusal) => return Err(refusal),
-        }
-    }
-    Ok(None)
+/// The place of the first item of a list that is no value, and what is wrong with it.
+fn wrong_item(scope: Scope<'_>, items: &[Value]) -> Result<Option<(usize, String)>, Memory> {
+    let Some(place) = refused_place(scope, items)? else {
+        return Ok(None);
+    };
+    let mut text = String::new(scope.alloc);
+    push_placed(&mut text, scope, items, place)?;
+    let culprit = sentence(scope.alloc, &text, "it is no value of the input")?;
+    Ok(Some((place, culprit)))
 }
 
 /// The first item of a row of a burst that is no value.
 fn wrong_rows(
-    alloc: Global,
-    program: &Program,
-    inputs: &[Formal],
+    scope: Scope<'_>,
     caller: usize,
     call: usize,
     rows: &[Value],
-) -> Result<Option<Finding>, ScriptRefusal> {
+) -> Result<Option<Finding>, Memory> {
     for (row, listed) in rows.iter().enumerate() {
         let listed = as_list(listed).unwrap_or(&[]);
-        if let Some(item) = wrong_item(alloc, program, inputs, listed)? {
+        if let Some((item, culprit)) = wrong_item(scope, listed)? {
             let spot = Spot::ItemOfRow(caller, call, row, item);
-            return Ok(Some(Finding::at(spot, Check::Value)));
+            return Ok(Some(Finding::of(spot, Check::Value, culprit)));
         }
     }
     Ok(None)
@@ -80,17 +70,19 @@ fn wrong_call(
     caller: usize,
     place: usize,
     call: &Value,
-) -> Result<Option<Finding>, ScriptRefusal> {
-    let inputs = inputs_of(program, instances, text_at(call, "on"));
-    match wrong_item(alloc, program, inputs, items_at(call, "step"))? {
-        Some(item) => {
+) -> Result<Option<Finding>, Memory> {
+    let scope = Scope {
+        alloc,
+        program: program.source(),
+        names: program.names(),
+        inputs: inputs_of(program, instances, text_at(call, "on")),
+    };
+    match wrong_item(scope, items_at(call, "step"))? {
+        Some((item, culprit)) => {
             let spot = Spot::Item(caller, place, item);
-            Ok(Some(Finding::at(spot, Check::Value)))
+            Ok(Some(Finding::of(spot, Check::Value, culprit)))
         }
-        None => {
-            let rows = items_at(call, "burst");
-            wrong_rows(alloc, program, inputs, caller, place, rows)
-        }
+        None => wrong_rows(scope, caller, place, items_at(call, "burst")),
     }
 }
 
@@ -100,7 +92,7 @@ fn wrong_calls(
     instances: &[Value],
     caller: usize,
     calls: &[Value],
-) -> Result<Option<Finding>, ScriptRefusal> {
+) -> Result<Option<Finding>, Memory> {
     for (place, call) in calls.iter().enumerate() {
         let finding = wrong_call(alloc, program, instances, caller, place, call)?;
         if finding.is_some() {
@@ -110,12 +102,12 @@ fn wrong_calls(
     Ok(None)
 }
 
-/// The first item of a step or of a burst that is no value. A refusal is `Memory`.
+/// The first item of a step or of a burst that is no value.
 pub(crate) fn wrong_value(
     alloc: Global,
     program: &Program,
     scripts: &Value,
-) -> Result<Option<Finding>, ScriptRefusal> {
+) -> Result<Option<Finding>, Memory> {
     let instances = items_at(scripts, "instances");
     for (place, caller) in items_at(scripts, "callers").iter().enumerate() {
         let calls = items_at(caller, "calls");

@@ -85,7 +85,7 @@ pub fn refused_scripts(alloc: Global, name: &str, complaint: Complaint) -> Resul
     if complaint.refusal == ScriptRefusal::Memory {
         return Err(Fault::Memory);
     }
-    match report_scripts(alloc, name, complaint) {
+    match report_scripts(alloc, name, &complaint) {
         Ok(text) => Ok(Verdict { text, status: 2 }),
         Err(_) => Err(Fault::Memory),
     }

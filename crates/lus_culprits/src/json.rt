@@ -2,6 +2,8 @@
 
 ghost use Rattle.std.specs.Prelude.{◌≤◌, IfSome, length};
 
+use crate::names::push_name;
+use lus_values::Memory;
 use serde_json::Value;
 use std::alloc::Global;
 use std::str;
@@ -60,7 +62,7 @@ fn offset_of(bytes: &[u8], line: usize, column: usize) -> usize {
 
 /// How many bytes stand before the first that no JSON goes on with, where their reader stopped at this line and column, or before
 /// the string that is wrong as a whole, as half of a pair of codes is. Nothing when out of memory.
-pub(crate) fn fault_at(alloc: Global, bytes: &[u8], line: usize, column: usize) -> Option<usize>
+pub fn fault_at(alloc: Global, bytes: &[u8], line: usize, column: usize) -> Option<usize>
     ensures { IfSome result (λ n. n ≤ length bytes.now) }
 {
     let stop = longest_front(alloc, &bytes[..text_length(bytes)])?;
@@ -69,4 +71,54 @@ pub(crate) fn fault_at(alloc: Global, bytes: &[u8], line: usize, column: usize) 
         return Some(told);
     }
     Some(stop)
+}
+
+/// The last of some bytes that is no blank of JSON.
+fn last_mark(bytes: &[u8]) -> Option<u8> {
+    let mut last = None;
+    for byte in bytes {
+        if !matches!(*byte, b' ' | b'\t' | b'\r' | b'\n') {
+            last = Some(*byte);
+        }
+    }
+    last
+}
+
+/// The front of a text up to the end of its first word, or of its first character where that begins none.
+fn first_word(alloc: Global, given: &str) -> Result<String, Memory> {
+    let mut word = String::new(alloc);
+    for letter in given.chars() {
+        if !word.is_empty() && !letter.is_ascii_alphanumeric() {
+            return Ok(word);
+        }
+        word.push(letter)?;
+        if !letter.is_ascii_alphanumeric() {
+            return Ok(word);
+        }
+    }
+    Ok(word)
+}
+
+/// Appends what stands in bytes behind the front that JSON may begin with.
+pub fn push_unexpected(
+    text: &mut String,
+    alloc: Global,
+    front: &[u8],
+    rest: &[u8],
+) -> Result<(), Memory> {
+    let Some(next) = rest.first() else {
+        text.push_str("unexpected end")?;
+        return Ok(());
+    };
+    if text_length(rest) == 0 {
+        text.push_str("bytes that are not UTF-8")?;
+        return Ok(());
+    }
+    let word = first_word(alloc, &String::from_utf8_lossy(alloc, rest)?)?;
+    if last_mark(front) == Some(b',') && (*next == b']' || *next == b'}') {
+        text.push_str("nothing stands between `,` and ")?;
+    } else {
+        text.push_str("unexpected ")?;
+    }
+    push_name(text, &word)
 }
