@@ -18,5 +18,6 @@ pub use misfits::push_shape;
 pub use names::{
     input_names, names_of, node_names, push_count, push_name, push_names, push_unknown,
 };
+pub use objects::{push_call_keys, push_keys};
 pub use sentence::sentence;
 pub use types::{inputs_of, push_cell};

@@ -12,6 +12,9 @@ use std::alloc::Global;
 /// What an object may ask, by its one key.
 const KINDS: [&str; 6] = ["inputs", "step", "burst", "reset", "save", "restore"];
 
+/// What a call of scripts may have keys of.
+const KEYS: [&str; 6] = ["on", "step", "burst", "reset", "save", "restore"];
+
 /// The kinds of calls that an object has keys of.
 fn kinds_in(alloc: Global, object: &Value) -> Result<Vec<&'static str>, Memory> {
     let mut kinds = Vec::new(alloc);
@@ -155,6 +158,53 @@ fn push_asked(
     }
 }
 
+/// Appends which key of an object is none of these, if one is.
+fn push_other_key(
+    text: &mut String,
+    alloc: Global,
+    object: &Value,
+    keys: &[&str],
+) -> Result<(), Memory> {
+    let Some(members) = object.as_object() else {
+        return Ok(());
+    };
+    match other_key(members, keys) {
+        Some(key) => {
+            push_unknown(text, alloc, "it has no key ", key, "; its keys are ", keys)
+        }
+        None => Ok(()),
+    }
+}
+
+/// Appends to an empty text which key of an object is none of these, or else which of these it lacks.
+pub fn push_keys(
+    text: &mut String,
+    alloc: Global,
+    object: &Value,
+    keys: &[&str],
+) -> Result<(), Memory> {
+    push_other_key(text, alloc, object, keys)?;
+    for key in keys {
+        if text.is_empty() && object.is_object() && object.get(*key).is_none() {
+            text.push_str("it lacks its key ")?;
+            push_name(text, *key)?;
+        }
+    }
+    Ok(())
+}
+
+/// Appends to an empty text what is wrong with the keys of a call of scripts: where it is of no kind, only a key of no call.
+pub fn push_call_keys(text: &mut String, alloc: Global, call: &Value) -> Result<(), Memory> {
+    let kinds = kinds_in(alloc, call)?;
+    if kinds.len() > 1 {
+        return push_kinds(text, &kinds);
+    }
+    match kinds.first() {
+        Some(kind) if is_among(&KEYS, *kind) => push_keys(text, alloc, call, &["on", *kind]),
+        _ => push_other_key(text, alloc, call, &KEYS),
+    }
+}
+
 /// Appends what is wrong with an object that has the key of a kind of call.
 fn push_of_kind(
     text: &mut String,
@@ -175,6 +225,12 @@ fn push_of_kind(
     }
 }
 
+/// Appends that a call is of several kinds.
+fn push_kinds(text: &mut String, kinds: &[&str]) -> Result<(), Memory> {
+    text.push_str("a call is of one kind, and these are given: ")?;
+    push_names(text, kinds)
+}
+
 /// Appends what is wrong with an object that is no call.
 pub(crate) fn push_object(
     text: &mut String,
@@ -184,8 +240,7 @@ pub(crate) fn push_object(
 ) -> Result<(), Memory> {
     let kinds = kinds_in(scope.alloc, object)?;
     if kinds.len() > 1 {
-        text.push_str("a call is of one kind, and these are given: ")?;
-        return push_names(text, &kinds);
+        return push_kinds(text, &kinds);
     }
     match kinds.first() {
         Some(kind) => push_of_kind(text, scope, *kind, object, members),

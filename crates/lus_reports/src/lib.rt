@@ -7,6 +7,7 @@ mod explanation;
 mod finding;
 mod form;
 mod further;
+mod keys;
 mod known;
 mod lines;
 mod nodes;

@@ -10,6 +10,7 @@ ghost use Rattle.lus_scripts.specs.View.{scripts_seen};
 use crate::check::Check;
 use crate::finding::{Finding, Found};
 use crate::form::wrong_form;
+use crate::keys::with_keys;
 use crate::known::{doubled_name, too_many, unknown_name};
 use crate::value::wrong_value;
 use lus_cli::lus_host::Program;
@@ -95,7 +96,7 @@ fn find_in(
 ) -> Option<Finding> {
     match refusal {
         ScriptRefusal::Form => match wrong_form(scripts) {
-            Some(finding) => Some(finding),
+            Some(finding) => with_keys(alloc, scripts, finding).ok(),
             None => wrong_value(alloc, program, scripts).unwrap_or(None),
         },
         ScriptRefusal::Limit => too_many(scripts),
