@@ -9,7 +9,7 @@ use crate::json::{fault_at, push_unexpected};
 use crate::objects::{push_list, push_object};
 use crate::sentence::sentence;
 use crate::types::inputs_of;
-use lus_program::{NodeId, Program};
+use lus_program::{NodeId, Program, Variable};
 use lus_syntax::place_behind;
 use lus_values::{Memory, Names};
 use serde_json::{Error, Value};
@@ -83,7 +83,7 @@ pub fn explain_call(
 ) -> Result<String, Memory>
     ensures { IfOk result (λ t. IsSentence (string_bytes t)) }
 {
-    let inputs = match program.nodes.get(node.0 as usize) {
+    let inputs: &[Variable] = match program.nodes.get(node.0 as usize) {
         Some(node) => inputs_of(node),
         None => &[],
     };

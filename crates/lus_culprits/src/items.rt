@@ -44,12 +44,7 @@ pub fn refused_place(scope: Scope<'_>, items: &[Value]) -> Result<Option<usize>,
 
 /// Whether a name is one of these.
 pub(crate) fn is_among(names: &[&str], name: &str) -> bool {
-    for known in names {
-        if *known == name {
-            return true;
-        }
-    }
-    false
+    names.contains(&name)
 }
 
 /// The first key of an object that is none of these names.

@@ -114,7 +114,8 @@ pub fn push_unexpected(
         text.push_str("bytes that are not UTF-8")?;
         return Ok(());
     }
-    let word = first_word(alloc, &String::from_utf8_lossy(alloc, rest)?)?;
+    let shown = String::from_utf8_lossy(alloc, rest)?;
+    let word = first_word(alloc, &shown)?;
     if last_mark(front) == Some(b',') && (*next == b']' || *next == b'}') {
         text.push_str("nothing stands between `,` and ")?;
     } else {

@@ -10,10 +10,10 @@ use serde_json::{Map, Value};
 use std::alloc::Global;
 
 /// What an object may ask, by its one key.
-const KINDS: [&str; 6] = ["inputs", "step", "burst", "reset", "save", "restore"];
+static KINDS: [&str; 6] = ["inputs", "step", "burst", "reset", "save", "restore"];
 
 /// What a call of scripts may have keys of.
-const KEYS: [&str; 6] = ["on", "step", "burst", "reset", "save", "restore"];
+static KEYS: [&str; 6] = ["on", "step", "burst", "reset", "save", "restore"];
 
 /// The kinds of calls that an object has keys of.
 fn kinds_in(alloc: Global, object: &Value) -> Result<Vec<&'static str>, Memory> {

@@ -157,7 +157,8 @@ fn reason(
             text.push_str("the input is empty, and its first line has names of columns")?;
             if !columns.is_empty() {
                 text.push_str(": ")?;
-                push_names(&mut text, &names_of(alloc, columns)?)?;
+                let names = names_of(alloc, columns)?;
+                push_names(&mut text, &names)?;
             }
         }
     }

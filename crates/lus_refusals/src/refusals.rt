@@ -111,16 +111,16 @@ pub fn push_unfit(
     node: usize,
     request: &Request,
 ) -> Result<(), Memory> {
-    for why in [Why::Shape, Why::Presence] {
+    for why in &[Why::Shape, Why::Presence] {
         let mut reason = String::new(alloc);
         match request {
             Request::Step(_) | Request::Burst(_) => {
-                push_refusal(&mut reason, alloc, program, names, node, request, why)?;
+                push_refusal(&mut reason, alloc, program, names, node, request, *why)?;
             }
             Request::Reset | Request::Save(_) | Request::Restore(_) => {}
         }
         if !reason.is_empty() {
-            let word = why_word(why);
+            let word = why_word(*why);
             write!(text, "refused {word}: {reason}")?;
             return Ok(());
         }

@@ -27,7 +27,6 @@ pub use explanation::{Explanation, accept, explain};
 pub use finding::{Finding, Found};
 pub use lus_causes::lus_faults;
 pub use lus_cli;
-pub use lus_culprits;
 pub use outlining::outline;
 pub use reporting::report;
 pub use scripts::{Complaint, explain_scripts, meaning_of, report_scripts};
