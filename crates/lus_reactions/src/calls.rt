@@ -1,5 +1,6 @@
 //! Lines of JSON as calls of a node.
 
+ghost use Rattle.std.specs.Prelude.{IfOk, string_bytes};
 ghost use Rattle.lus_program.specs.View.{program_seen};
 ghost use Rattle.lus_lines.specs.Lines.{IsPlain};
 ghost use Rattle.lus_reactions.specs.Reactions.{IsCallTo};
@@ -24,7 +25,14 @@ pub struct JsonCalls<'p> {
 }
 
 impl JsonCalls<'_> {
-    /// What is wrong with a line that is no call, in a sentence without a line feed.
+    /// What is wrong with a line that is no call: which input, field, constructor or kind of call.
+    pub fn culprit(&self, line: &[u8]) -> Result<String, Memory>
+        ensures { IfOk result (λ t. IsPlain (string_bytes t)) }
+    {
+        explain_call(self.alloc, self.program, self.names, self.node, line)
+    }
+
+    /// What is wrong with a line that is no call, in a general sentence without a line feed.
     pub fn reason(&self, line: &[u8]) -> &'static str
         ensures { IsPlain result.now }
     {
@@ -48,7 +56,7 @@ impl Calls for JsonCalls<'_> {
     }
 
     fn explain<F: Sink>(&self, line: &[u8], faults: &mut F) {
-        match explain_call(self.alloc, self.program, self.names, self.node, line) {
+        match self.culprit(line) {
             Ok(sentence) => {
                 let _ = write_all(faults, sentence.as_bytes());
             }
