@@ -7,7 +7,7 @@ ghost use Rattle.lus_culprits.specs.Sentences.{IsBasic, IsSentence};
 use crate::items::{Scope, push_json};
 use crate::json::{fault_at, push_unexpected};
 use crate::objects::{push_list, push_object};
-use crate::sentence::sentence;
+use crate::sentences::sentence;
 use crate::types::inputs_of;
 use lus_program::{NodeId, Program, Variable};
 use lus_syntax::place_behind;

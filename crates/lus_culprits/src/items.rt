@@ -112,7 +112,14 @@ fn push_wrong_fields(
     text.push_str("input ")?;
     push_name(text, path)?;
     if let Some(key) = other {
-        push_unknown(text, scope.alloc, " has no field ", key, "; its fields are ", &names)?;
+        push_unknown(
+            text,
+            scope.alloc,
+            " has no field ",
+            key,
+            "; its fields are ",
+            &names,
+        )?;
     } else if let Some(field) = missing {
         text.push_str(" lacks its field ")?;
         push_name(text, field)?;

@@ -8,7 +8,7 @@ mod json;
 mod misfits;
 mod names;
 mod objects;
-mod sentence;
+mod sentences;
 mod types;
 
 pub use calls::{explain_call, general_sentence};
@@ -19,5 +19,5 @@ pub use names::{
     input_names, names_of, node_names, push_count, push_name, push_names, push_unknown,
 };
 pub use objects::{push_call_keys, push_keys};
-pub use sentence::sentence;
+pub use sentences::sentence;
 pub use types::{inputs_of, push_cell};

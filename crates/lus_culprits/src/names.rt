@@ -82,7 +82,10 @@ pub fn push_count(
     let count = names.len();
     let are = if given == 1 { " is" } else { "s are" };
     let all = if count == 1 { "" } else { "s" };
-    write!(text, "{given} {thing}{are} given, for {count} {wanted}{all}")?;
+    write!(
+        text,
+        "{given} {thing}{are} given, for {count} {wanted}{all}"
+    )?;
     if count > 0 {
         text.push_str(": ")?;
         push_names(text, names)?;

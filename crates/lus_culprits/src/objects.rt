@@ -1,8 +1,6 @@
 //! Objects that are no calls.
 
-use crate::items::{
-    Scope, is_among, other_key, push_json, push_named, push_placed, refused_place,
-};
+use crate::items::{Scope, is_among, other_key, push_json, push_named, push_placed, refused_place};
 use crate::names::{input_names, push_name, push_names, push_unknown};
 use lus_scripts::as_list;
 use lus_values::Memory;
@@ -57,7 +55,14 @@ fn push_no_kind(
     match other_key(members, &[]) {
         Some(key) => {
             let known = "; its key is one of ";
-            push_unknown(text, scope.alloc, "no call has the key ", key, known, &KINDS)
+            push_unknown(
+                text,
+                scope.alloc,
+                "no call has the key ",
+                key,
+                known,
+                &KINDS,
+            )
         }
         None => Ok(()),
     }
@@ -154,7 +159,13 @@ fn push_asked(
         b"step" => push_step(text, scope, value),
         b"burst" => push_burst(text, scope, value),
         b"reset" => push_otherwise(text, scope.alloc, kind, " is true", value),
-        _ => push_otherwise(text, scope.alloc, kind, " is a slot, a whole number from 0 to 7", value),
+        _ => push_otherwise(
+            text,
+            scope.alloc,
+            kind,
+            " is a slot, a whole number from 0 to 7",
+            value,
+        ),
     }
 }
 
@@ -169,9 +180,7 @@ fn push_other_key(
         return Ok(());
     };
     match other_key(members, keys) {
-        Some(key) => {
-            push_unknown(text, alloc, "it has no key ", key, "; its keys are ", keys)
-        }
+        Some(key) => { push_unknown(text, alloc, "it has no key ", key, "; its keys are ", keys) }
         None => Ok(()),
     }
 }

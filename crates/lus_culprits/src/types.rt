@@ -72,7 +72,14 @@ pub(crate) fn push_word(
     text.push_str("input ")?;
     push_name(text, path)?;
     let names = names_of(alloc, constructors_of(program, kind))?;
-    push_unknown(text, alloc, " has no constructor ", word, "; it is one of ", &names)
+    push_unknown(
+        text,
+        alloc,
+        " has no constructor ",
+        word,
+        "; it is one of ",
+        &names,
+    )
 }
 
 /// Appends what is wrong with a cell that is no value of a type.

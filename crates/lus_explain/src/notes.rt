@@ -22,7 +22,14 @@ fn push_reason(
     match scripts.instances.get(call.on) {
         Some(instance) => {
             let node = instance.id.0 as usize;
-            push_unfit(text, alloc, program.source(), program.names(), node, &call.request)
+            push_unfit(
+                text,
+                alloc,
+                program.source(),
+                program.names(),
+                node,
+                &call.request,
+            )
         }
         None => Ok(()),
     }

@@ -110,7 +110,14 @@ fn push_columns(
         let given = String::from_utf8_lossy(alloc, *name)?;
         if known(columns, *name).is_none() {
             let all = names_of(alloc, columns)?;
-            return push_unknown(text, alloc, "no input has the column ", &given, "; the columns are ", &all);
+            return push_unknown(
+                text,
+                alloc,
+                "no input has the column ",
+                &given,
+                "; the columns are ",
+                &all,
+            );
         }
         if names[..place].contains(name) {
             text.push_str("the column ")?;

@@ -220,7 +220,15 @@ pub(crate) fn wrong_field<'p>(
     };
     for field in fields {
         let name = field_column(alloc, column, field.name.as_str())?;
-        let value = read_value(alloc, program, names, cells, MOST_NESTING, field.kind, &name)?;
+        let value = read_value(
+            alloc,
+            program,
+            names,
+            cells,
+            MOST_NESTING,
+            field.kind,
+            &name,
+        )?;
         if value.is_none() {
             return Ok(Some(field));
         }

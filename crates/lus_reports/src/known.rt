@@ -100,7 +100,14 @@ fn no_instance(alloc: Global, instances: &[Value], call: &Value) -> Result<Strin
     let names = instance_names(alloc, instances)?;
     let known = "; their instances are ";
     let mut text = String::new(alloc);
-    push_unknown(&mut text, alloc, "the scripts have no instance ", on, known, &names)?;
+    push_unknown(
+        &mut text,
+        alloc,
+        "the scripts have no instance ",
+        on,
+        known,
+        &names,
+    )?;
     sentence(alloc, &text, "the scripts have no such instance")
 }
 
@@ -126,7 +133,14 @@ fn no_node(alloc: Global, program: &Program, instance: &Value) -> Result<String,
     let names = node_names(alloc, program.source())?;
     let known = "; its nodes are ";
     let mut text = String::new(alloc);
-    push_unknown(&mut text, alloc, "the program has no node ", node, known, &names)?;
+    push_unknown(
+        &mut text,
+        alloc,
+        "the program has no node ",
+        node,
+        known,
+        &names,
+    )?;
     sentence(alloc, &text, "the program has no such node")
 }
 
