@@ -11,7 +11,7 @@ use crate::inputs::{Cells, column_names, read_item, read_row, wrong_field};
 use indexmap::IndexSet;
 use lus_devices::{Sink, write_all};
 use lus_program::{Program, Variable};
-use lus_refusals::lus_culprits::{push_cell, push_count, sentence};
+use lus_refusals::lus_culprits::{push_cell, push_count, push_name, sentence};
 use lus_requests::Request;
 use lus_syntax::MOST_NESTING;
 use lus_values::{Memory, Names};
@@ -75,7 +75,14 @@ fn push_input(
         column = field_column(alloc, &column, field.name.as_str())?;
         kind = field.kind;
     }
-    push_cell(text, alloc, program, &column, kind, cells.cell(&column))
+    let cell = cells.cell(&column);
+    if let [.., b'\n'] = cell {
+        text.push_str("the cell of ")?;
+        push_name(text, &column)?;
+        text.push_str(" has a quote that isn't closed")?;
+        return Ok(());
+    }
+    push_cell(text, alloc, program, &column, kind, cell)
 }
 
 /// Appends why cells are no step.
