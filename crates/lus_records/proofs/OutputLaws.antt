@@ -1,5 +1,5 @@
 -- The cells of values and of outputs.
-use Rattle.std.proofs.Common.{◌≡◌, ◌∙◌, ◌+◌, refl, ap, List, [], ◌∷◌, ◌++◌, map, flat_map, Vec, Global}
+use Rattle.std.proofs.Common.{◌≡◌, ◌∙◌, refl, ap, List, [], ◌∷◌, ◌++◌, map, flat_map, Vec, Global}
 use Rattle.lus_values.specs.declared.value.Value.{Value as StoredValue, Struct}
 use Rattle.lus_values.specs.Names.{Names}
 use Rattle.lus_values.specs.Values.{Value, fields_of}
