@@ -1,5 +1,5 @@
 -- What is drawn behind one entry more.
-use Rattle.std.proofs.Common.{◌≡◌, ◌∙◌, ◌++◌, ◌∷◌, ℕ, true, false, List, [], Option, Some, None, IsSome, MatchOption, is_some, map, ap, append_assoc, append-nil, refl, subst, sym}
+use Rattle.std.proofs.Common.{◌≡◌, ◌∙◌, ◌++◌, ◌∷◌, ℕ, true, false, List, [], Option, Some, None, IsSome, MatchOption, is_some, map, ap, append_assoc, append-nil, subst, sym}
 use Rattle.std.proofs.lemmas.Bool.{true≢false}
 use Rattle.lus_values.specs.Names.{Text}
 use Rattle.lus_values.specs.Values.{Row}
