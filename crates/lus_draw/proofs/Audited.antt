@@ -51,7 +51,7 @@ module _ (p : Program) (Old New : List Journal → Type 0) (on : (js : List Jour
 pub audited_some : (p : Program) (A : Type 0) (Of : A → List Journal → Type 0) (left : Option Bytes) (report : Text)
     → HasAudited p (λ js. (a : A) × Of a js) None left report → (a : A) × HasAudited p (Of a) None left report
 audited_some p A Of left report (tail, mid, end, lines, are, last) =
-    let lawful = record {
+    let lawful : AreLawful p (Of are.gathered.0) tail left mid lines report = record {
       journals = are.journals;
       lawful = are.lawful;
       gathered = are.gathered.1;
@@ -151,13 +151,13 @@ module _ (d : Drawing) (p : Program) where
 -- of another format than a page
 pub shown_of : (f : Format) (names : Names) (left : Option Bytes) (tables : List Text) (written : Text) → is_page f ≡ false → AsCsv f (written ≡ joined tables)
     → (ts : List Trace) → AsCsv f (tables ≡ map (table_text names) ts) → IsShown f names left ts written
-shown_of formats.Csv names left tables written no is ts are = is ∙ ap joined are
-shown_of formats.Html names left tables written no is ts are = absurd (true≢false no)
-shown_of formats.Text names left tables written no is ts are = tt
-shown_of formats.Waves names left tables written no is ts are = tt
-shown_of formats.Vcd names left tables written no is ts are = tt
+shown_of formats.Csv names left tables written isnt is ts are = is ∙ ap joined are
+shown_of formats.Html names left tables written isnt is ts are = absurd (true≢false isnt)
+shown_of formats.Text names left tables written isnt is ts are = tt
+shown_of formats.Waves names left tables written isnt is ts are = tt
+shown_of formats.Vcd names left tables written isnt is ts are = tt
 
 pub page_of : (f : Format) (names : Names) (bytes text : Text) (ts : List Trace) (written : Text) → is_page f ≡ true → IsFrontOf bytes text
     → DrawsLines text written → IsShown f names (Some bytes) ts written
-page_of formats.Html names bytes text ts written yes front lines = (bytes, text, refl, front, lines)
-page_of _ names bytes text ts written no front lines = absurd (true≢false (sym no))
+page_of formats.Html names bytes text ts written page front lines = (bytes, text, refl, front, lines)
+page_of _ names bytes text ts written page front lines = absurd (true≢false (sym page))

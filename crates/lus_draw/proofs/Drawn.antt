@@ -39,9 +39,9 @@ csv_so formats.Vcd P so = tt
 of_csv : (f : Format) (P : Type 0) → f ≡ formats.Csv → AsCsv f P → P
 of_csv f P is so = subst (λ g. AsCsv g P) is so
 
--- of another format nothing is said
-pub other : (f : Format) (P : Type 0) → (f ≡ formats.Csv → ⊥) → AsCsv f P
-other f P isnt = csv_so f P (λ e. absurd (isnt e))
+-- what holds as it is drawn in a format holds where that is the format
+pub as_is : (f g : Format) (P : Type 0) → f ≡ g → AsCsv g P → AsCsv f P
+as_is f g P is so = subst (λ k. AsCsv k P) (sym is) so
 
 -- what holds of all values holds of a result's
 pub if_ok : {T E : Type 0} (r : Result T E) (P : T → Type 0) → ((x : T) → P x) → IfOk r P
@@ -79,7 +79,7 @@ module _ (d : Drawing) (p : Program) where
     -- columns came, and were written
     pub drawn_on : (q : Program) (old new : Text) (cs : List Column) → q ≡ p
         → ((columns : List Column) → HasSketched d.selection q node h columns k → HasSketched d.selection q node h' (columns ++ cs) k')
-        → (d.format ≡ formats.Csv → new ≡ old ++ flat_map (column_text (names_of p) (traced k' instance [])) cs)
+        → AsCsv d.format (new ≡ old ++ flat_map (column_text (names_of p) (traced k' instance [])) cs)
         → HasDrawn d p node h k instance old → HasDrawn d p node h' k' instance new
     drawn_on q old new cs is_of on text is =
         let names = map name_of k'.signals.items in
@@ -90,7 +90,8 @@ module _ (d : Drawing) (p : Program) where
           columns = is.columns ++ cs;
           sketched = going is.sketched;
           written = csv_so d.format (new ≡ table_text (names_of p) (traced k' instance (is.columns ++ cs))) (λ e.
-              text e ∙ ap (λ t. t ++ flat_map line cs) (of_csv d.format (old ≡ table_text (names_of p) (traced k' instance is.columns)) e (renamed is.columns old is.written))
+              of_csv d.format (new ≡ old ++ flat_map line cs) e text
+              ∙ ap (λ t. t ++ flat_map line cs) (of_csv d.format (old ≡ table_text (names_of p) (traced k' instance is.columns)) e (renamed is.columns old is.written))
               ∙ append_assoc (head_text names) before (flat_map line cs)
               ∙ ap (λ t. head_text names ++ t) (sym (flat_map-append line is.columns cs)));
         }

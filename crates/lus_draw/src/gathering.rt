@@ -150,14 +150,14 @@ fn traced<K: Selects>(
     is_whole: bool,
 ) -> Result<Trace, Memory> {
     let formals = formals(alloc, program.source(), program.names(), node.0)?;
-    let mut heading = drawn.heading;
+    let (sketch, mut heading) = (drawn.sketch, drawn.heading);
     if !is_whole {
-        heading.ends_early = Some(drawn.sketch.table.line);
+        heading.ends_early = Some(sketch.table.line);
     }
     Ok(Trace {
         heading,
         formals,
-        signals: drawn.sketch.signals,
+        signals: sketch.signals,
         columns: drawn.columns,
         refusals: drawn.refusals,
     })
@@ -334,13 +334,14 @@ impl<'a, K: Selects> Observers for Gathering<'a, K> {
         is_whole: bool,
     ) -> Result<(), Memory> {
         // a table's lines have the name with which it began
-        if observer.heading.instance.as_str() != instance {
-            return Err(Memory);
+        if observer.heading.instance.as_str() == instance {
+            let failure = observer.sketch.failure;
+            self.gathered
+                .keep(alloc, program, node, observer, is_whole)?;
+            self.failure = self.failure.or(failure);
+            Ok(())
+        } else {
+            Err(Memory)
         }
-        let failure = observer.sketch.failure;
-        self.gathered
-            .keep(alloc, program, node, observer, is_whole)?;
-        self.failure = self.failure.or(failure);
-        Ok(())
     }
 }

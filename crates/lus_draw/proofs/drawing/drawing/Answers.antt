@@ -13,16 +13,16 @@ use Rattle.lus_draw.specs.Reading.{failures_since}
 use Rattle.lus_draw.proofs.Audited.{drawn_of, ended_is, shown_of}
 use Rattle.lus_draw.proofs.drawing.drawing.Goals as goal
 
-pub returns-in-Ok-clause-drawn : goal.returns-in-Ok-clause-drawn
-returns-in-Ok-clause-drawn g c =
+pub returns-in-Ok-written-clause-drawn : goal.returns-in-Ok-written-clause-drawn
+returns-in-Ok-written-clause-drawn g c =
     let d = g.K.Selects.wanted in
     let p = program_of (arc_value c.args.program.now) in
     let left = g.S.Source.left c.args.file in
     let tables = map string_bytes c.in-Ok.found.tables.items in
-    let written = string_bytes c.in-Ok-2.written in
+    let written = string_bytes c.in-Ok-written.written in
     let format : is_page d.format ≡ false = subst (λ (w : Drawing). is_page w.format ≡ false) c.requires.wanted c.requires.format in
     let found = subst (λ bytes. IsGathered p d bytes tables) c.new-file.ensures c.in-Ok.ensures.drawn in
-    let shown = subst (λ (w : Drawing). AsCsv w.format (written ≡ joined tables)) c.requires.wanted c.in-Ok-2.ensures in
+    let shown = subst (λ (w : Drawing). AsCsv w.format (written ≡ joined tables)) c.requires.wanted c.in-Ok-written.ensures in
     drawn_of d p left tables written found (shown_of d.format (names_of p) left tables written format shown)
 
 pub returns-in-Err-clause-fault : goal.returns-in-Err-clause-fault

@@ -9,16 +9,16 @@ use Rattle.lus_draw.specs.Drawings.{IsDrawingFault, is_page}
 use Rattle.lus_draw.proofs.Audited.{drawn_of, ended_is, page_of}
 use Rattle.lus_draw.proofs.drawing.journal_page.Goals as goal
 
-pub returns-in-Ok-clause-drawn : goal.returns-in-Ok-clause-drawn
-returns-in-Ok-clause-drawn g c =
+pub returns-in-Ok-page-clause-drawn : goal.returns-in-Ok-page-clause-drawn
+returns-in-Ok-page-clause-drawn g c =
     let d = g.K.Selects.wanted in
     let p = program_of (arc_value c.args.program.now) in
     let bytes = c.args.bytes.now in
     let text = c.text_in.result.now in
-    let written = string_bytes c.in-Ok-2.page in
+    let written = string_bytes c.in-Ok-page.page in
     let page : is_page d.format ≡ true = subst (λ (w : Drawing). is_page w.format ≡ true) c.requires.wanted c.requires.page in
     drawn_of d p (Some bytes) (map string_bytes c.in-Ok.found.tables.items) written c.in-Ok.ensures.drawn
-    (λ ts are. page_of d.format (names_of p) bytes text ts written page c.text_in.ensures c.in-Ok-2.ensures)
+    (λ ts are. page_of d.format (names_of p) bytes text ts written page c.text_in.ensures c.in-Ok-page.ensures)
 
 pub returns-in-Err-clause-fault : goal.returns-in-Err-clause-fault
 returns-in-Err-clause-fault g c =

@@ -1,5 +1,5 @@
 -- What an accepted program has, and that nothing is drawn of no entries.
-use Rattle.std.proofs.Common.{◌∙◌, ap, sym, string_bytes, subst}
+use Rattle.std.proofs.Common.{sym, subst}
 use Rattle.lus_values.specs.Lists.{Each}
 use Rattle.lus_program.specs.Programs.{Program}
 use Rattle.lus_program.specs.Resolved.{Resolved}
@@ -23,5 +23,5 @@ new-requires-clause-narrow g c = subst (λ (p : Program). Each IsNarrow p.nodes)
 pub returns-clause-new : goal.returns-clause-new
 returns-clause-new g c =
     drawn_begun g.K.Selects.wanted (program_of c.args.program.now) (drawing_seen c.args.self.now.wanted) (program_seen c.source.result.now) c.args.node.0
-    c.in_ok-sketch.sketch c.deref.result.now (string_bytes c.in_ok-heading.heading.instance) (string_bytes c.in_ok-begun.table)
-    c.args.self.now.is c.source.ensures.same c.deref.ensures.value c.in_ok-sketch.ensures.sketched c.in_ok-begun.ensures
+    c.in_ok-sketch.sketch c.deref.result.now _ _
+    c.args.self.now.is c.source.ensures.same c.deref.ensures.value c.in_ok-sketch.ensures.sketched c.in_ok-table.ensures

@@ -7,4 +7,4 @@ use Rattle.lus_draw.proofs.reading.OpenedSource.read.Goals as goal
 pub invariant_of-self-in_default : goal.invariant_of-self-in_default
 invariant_of-self-in_default g c =
     let before = subst (λ b. g.S.Source.failures c.args.self.now.source ≡ failures_since b g.K.Selects.failures) c.if-self.false c.args.self.now.counted in
-    c.in_default.ensures.failed ∙ ap one_more before
+    record { counted = c.in_default.ensures.failed ∙ ap one_more before }
