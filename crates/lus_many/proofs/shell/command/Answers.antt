@@ -3,8 +3,8 @@ use Rattle.std.proofs.Common.{Err}
 use Rattle.lus_cli.proofs.TellingLemmas.{told_alone}
 use Rattle.lus_many.proofs.shell.command.Goals as goal
 
-pub returns-in-Err-clause-ends : goal.returns-in-Err-clause-ends
-returns-in-Err-clause-ends g c = record {
+pub returns-clause-ends : goal.returns-clause-ends
+returns-clause-ends g c = record {
   outcome = Err c.in-Err.fault;
   ends = c.in-Err.ensures.ends;
   told = told_alone c.tell-in-Err.result (g.F.Sink.written c.args.faults.now) (g.F.Sink.written c.perform.new.faults) (g.F.Sink.written c.tell-in-Err.new.faults)

@@ -47,8 +47,8 @@ returns-in-None-clause-ends g c =
     (subst (λ p. node_named p c.args.task.node.now ≡ Some c.in-Some.node.0) same named) None c.host_in.result (ap sessions_seen c.in-None.is)
     (hosted _ _ _ _ _ _ _ c.host_in.ensures.all c.host_in.ensures.begun)
 
-pub returns-in-Some-clause-ends : goal.returns-in-Some-clause-ends
-returns-in-Some-clause-ends g c =
+pub returns-clause-ends : goal.returns-clause-ends
+returns-clause-ends g c =
     let same : program_of c.in_ok-program.program ≡ program_of (arc_value c.in-Ok.program) = ap program_of (sym c.in-Ok.ensures.ok) in
     let named : node_named (program_of c.in_ok-program.program) c.args.task.node.now ≡ Some c.in-Some.node.0 =
     sym c.node.ensures ∙ ap (option_map _) c.in-Some.is in
@@ -57,8 +57,8 @@ returns-in-Some-clause-ends g c =
     (change (g.L.Sink.written c.args.log.now) (g.L.Sink.written c.go_on.new.log) (g.L.Sink.failures c.args.log.now) (g.L.Sink.failures c.go_on.new.log)) (task_seen c.args.task) (program_of (arc_value c.in-Ok.program)) c.in-Some.node.0
     (change (g.O.Sink.written c.args.output.now) (g.O.Sink.written c.go_on.new.output) (g.O.Sink.failures c.args.output.now) (g.O.Sink.failures c.go_on.new.output))
     (subst (IsOfFile (g.D.Folder.known c.args.folder.now c.args.task.program.now)) same c.in_ok-program.ensures.accepted)
-    (subst (λ p. node_named p c.args.task.node.now ≡ Some c.in-Some.node.0) same named) (session_seen c.in-Some.session) c.go_on.result (ap sessions_seen c.in-Some.is)
+    (subst (λ p. node_named p c.args.task.node.now ≡ Some c.in-Some.node.0) same named) (session_seen c.in-Some-session.session) c.go_on.result (ap sessions_seen c.in-Some-session.is)
     c.go_on.ensures.ends
 
-pub returns-in-Some-clause-stays : goal.returns-in-Some-clause-stays
-returns-in-Some-clause-stays g c = session_stays _ (session_seen c.in-Some.session) _ (ap sessions_seen c.in-Some.is)
+pub returns-clause-stays : goal.returns-clause-stays
+returns-clause-stays g c = session_stays _ (session_seen c.in-Some-session.session) _ (ap sessions_seen c.in-Some-session.is)

@@ -27,8 +27,8 @@ returns-then-is_json-clause-begun g c = λ before keeps.
     (g.O.Sink.written c.args.output.now) (g.O.Sink.written c.host_behind.new.output)))
     (spelled_json _ _ _ _ c.if-is_json.true c.json_lines-teller.ensures) (c.host_behind.ensures.begun before keeps))
 
-pub returns-clause-all : goal.returns-clause-all
-returns-clause-all g c = λ before keeps.
+pub returns-else-is_json-clause-all : goal.returns-else-is_json-clause-all
+returns-else-is_json-clause-all g c = λ before keeps.
     (let p = program_of (arc_value c.args.program.now) in
     subst
     (λ s. IfOk c.host_behind-else-is_json.result (λ score. HasHosted (calls (caller_seen c.args.caller)) p c.args.node.0 (log_spelling (names_of p)) s before
@@ -37,8 +37,8 @@ returns-clause-all g c = λ before keeps.
     (spelled_log _ _ _ _ c.if-is_json.false
     (ap log_spelling (c.names-names.ensures ∙ ap (λ q. names_of (program_of q)) c.deref.ensures))) (c.host_behind-else-is_json.ensures.all before keeps))
 
-pub returns-clause-begun : goal.returns-clause-begun
-returns-clause-begun g c = λ before keeps.
+pub returns-else-is_json-clause-begun : goal.returns-else-is_json-clause-begun
+returns-else-is_json-clause-begun g c = λ before keeps.
     (let p = program_of (arc_value c.args.program.now) in
     subst
     (λ s. OnErr c.host_behind-else-is_json.result (HasHostedSome (calls (caller_seen c.args.caller)) p c.args.node.0 (log_spelling (names_of p)) s before
