@@ -101,7 +101,13 @@ fn a_log_is_gone_on_in(rt: HostRuntime) -> Result<(), Fail> {
     let mut source = CUT.as_bytes();
     let keys = RandomState::new(&rt)?;
     let recovered = recover_log(
-        alloc, &program, node, keys, &mut source, &mut line, &mut right,
+        alloc,
+        &program,
+        node,
+        keys,
+        &mut source,
+        &mut line,
+        &mut right,
     );
     let Ok(recovered) = recovered else {
         panic!(&rt; "it is a log")

@@ -14,9 +14,9 @@ loop-lines-preserved g c =
     let finds = c.in_ok-next_found.ensures _ so_far.audited.keeps in
     elim c.match-branch-2.branch [
       | in-Right+in_ok-bytes-in-Right w ↦ read_right _ _ _ _ _ _ _ so_far _ _ _ _ _ finds w.in-Right.is _
-      (w.bytes-is ∙ w.in_ok-bytes-in-Right.ensures ∙ ap (λ l. c.loop-lines.bytes + length l) w.deref.ensures.value)
+          (w.bytes-is ∙ w.in_ok-bytes-in-Right.ensures ∙ ap (λ l. c.loop-lines.bytes + length l) w.deref.ensures.value)
       | in-Noted+in_ok-bytes-in-Noted w ↦ read_noted _ _ _ _ _ _ _ so_far _ _ _ _ _ finds w.in-Noted.is _
-      (w.bytes-is ∙ w.in_ok-bytes-in-Noted.ensures ∙ ap (λ l. c.loop-lines.bytes + length l) w.deref-in-Noted.ensures.value)
+          (w.bytes-is ∙ w.in_ok-bytes-in-Noted.ensures ∙ ap (λ l. c.loop-lines.bytes + length l) w.deref-in-Noted.ensures.value)
     ]
 
 pub returns-in-Cut : goal.returns-in-Cut
