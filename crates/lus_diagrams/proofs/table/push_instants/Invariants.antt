@@ -9,7 +9,7 @@ use Rattle.lus_diagrams.proofs.table.push_instants.Given as goal
 abbrev pub invariant-loop-cells : goal.invariant-loop-cells
 invariant-loop-cells l = record {
   pushed : map column_seen l.columns.items ++ part_behind l.part l.place (instants l.number (into_iter_items l.cells-iterator))
-  ≡ map column_seen l.initial.columns.items ++ part_behind l.part l.behind (instants l.count l.fn.rows.items);
+      ≡ map column_seen l.initial.columns.items ++ part_behind l.part l.behind (instants l.count l.fn.rows.items);
   places : l.place + length (into_iter_items l.cells-iterator) ≡ l.behind + length l.fn.rows.items;
   numbers : l.number + length (into_iter_items l.cells-iterator) ≡ l.count + length l.fn.rows.items;
 }
