@@ -23,7 +23,7 @@ use Rattle.lus_cli.specs.MachineSpecs.Constructors.{names_of}
 use Rattle.lus_cli.specs.MachineSpecs.Formals.{node_named}
 use Rattle.lus_draw.specs.CommandLine.{Drawing}
 use Rattle.lus_draw.specs.Drawings.{DrawsLines, texts}
-use Rattle.lus_draw.specs.Gatherings.{AreDrawn, AreTraces, AsCsv, FailsIn, HasDrawn, HasGathered, IsTrace}
+use Rattle.lus_draw.specs.Gatherings.{AreTraces, AsCsv, FailsIn, HasDrawn, HasGathered, IsTrace}
 use Rattle.lus_draw.specs.declared.words.Format.{Format}
 use Rattle.lus_draw.specs.declared.words.Format.TheVariants as formats
 

@@ -1,13 +1,13 @@
 -- What is drawn of the bytes that were read is drawn of the files'.
-use Rattle.std.proofs.Common.{◌≡◌, ◌<◌, inl, inr, refl, subst, ℕ, Option, Some, length, take}
+use Rattle.std.proofs.Common.{◌≡◌, ◌<◌, inr, refl, subst, ℕ, Option, Some, length, take}
 use Rattle.lus_program.specs.Programs.{Program}
 use Rattle.lus_devices.specs.Devices.{Bytes}
 use Rattle.lus_devices.specs.Folders.{Holds, Known, WithFile}
 use Rattle.lus_lawful.specs.Journals.{BeginsJournals}
 use Rattle.lus_cli.proofs.HostProofs.Sources.{read_whole}
 use Rattle.lus_cli.proofs.ProgramLemmas.{file_then}
-use Rattle.lus_cli.specs.Ends.{IsLost, IsReadingFault}
-use Rattle.lus_cli.specs.Programs.{IsOfFile, IsProgramFault}
+use Rattle.lus_cli.specs.Ends.{IsLost}
+use Rattle.lus_cli.specs.Programs.{IsOfFile}
 use Rattle.lus_cli.specs.declared.fault.Fault.{Fault}
 use Rattle.lus_cli.specs.declared.fault.Fault.TheVariants as faults
 use Rattle.lus_draw.specs.CommandLine.{Drawing}
@@ -27,12 +27,6 @@ module _ (file : Known) (n : ℕ) (bytes : Bytes) (short : length bytes < n) (re
   holds_all = of_file (λ bs. Some bytes ≡ Some bs) refl
 
 module _ (read_fails : Known → Type 0) (journal : Known) where
-  -- a fault of reading the lines of a file
-  pub page_unread : (f : Fault) → IsReadingFault (IsLost read_fails journal) f → PageFails read_fails journal f
-  page_unread faults.File lost = lost
-  page_unread faults.Memory memory = tt
-  page_unread _ never = absurd never
-
   pub page_fails : (n : ℕ) (bytes : Bytes) → length bytes < n → WithFile journal (λ left. bytes ≡ take n left) → (f : Fault) → IsPageFault bytes f
       → PageFails read_fails journal f
   page_fails n bytes short read (faults.Journal k) cause = of_file journal n bytes short read (λ bs. BeginsJournals bs → ⊥) cause
@@ -40,12 +34,6 @@ module _ (read_fails : Known → Type 0) (journal : Known) where
   page_fails n bytes short read _ never = absurd never
 
   module _ (p : Program) (d : Drawing) where
-    -- of reading the file of journals
-    pub journal_unread : (f : Fault) → IsReadingFault (IsLost read_fails journal) f → JournalFails read_fails journal p d f
-    journal_unread faults.File lost = lost
-    journal_unread faults.Memory memory = tt
-    journal_unread _ never = absurd never
-
     -- of what it has
     pub left_fails : (Failed : Type 0) (left : Option Bytes) → Holds journal left → (Failed → IsLost read_fails journal) → (f : Fault)
         → IsDrawingFault d.selection p Failed left f → JournalFails read_fails journal p d f
@@ -56,13 +44,6 @@ module _ (read_fails : Known → Type 0) (journal : Known) where
     left_fails Failed left holds lost _ never = absurd never
 
   module _ (program : Known) (d : Drawing) where
-    -- a fault of the program
-    pub program_fails : (f : Fault) → IsProgramFault read_fails program f → DrawingFails read_fails program journal d f
-    program_fails faults.File lost = inl lost
-    program_fails (faults.Program e) refused = refused
-    program_fails faults.Memory memory = tt
-    program_fails _ never = absurd never
-
     -- and of the journals
     pub drawing_fails : (p : Program) → IsOfFile program p → (f : Fault) → JournalFails read_fails journal p d f
         → DrawingFails read_fails program journal d f

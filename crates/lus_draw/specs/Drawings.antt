@@ -7,7 +7,7 @@ use Rattle.lus_traces.specs.Tables.{csv_text}
 use Rattle.lus_traces.specs.Traces.{Trace}
 use Rattle.lus_lawful.specs.Audits.{HasAudited}
 use Rattle.lus_lawful.specs.Findings.{AreNone}
-use Rattle.lus_lawful.specs.Journals.{BeginsJournals, Journal}
+use Rattle.lus_lawful.specs.Journals.{BeginsJournals}
 use Rattle.lus_lawful.specs.declared.error.AuditError.{AuditError}
 use Rattle.lus_lawful.specs.declared.error.AuditError.TheVariants as errors
 use Rattle.lus_cli.specs.CommandLine.{Text}

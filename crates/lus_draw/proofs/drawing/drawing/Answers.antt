@@ -1,5 +1,5 @@
 -- What was gathered of lawful journals is written.
-use Rattle.std.proofs.Common.{◌≡◌, ◌++◌, ap, false, map, string_bytes, subst, sym}
+use Rattle.std.proofs.Common.{◌≡◌, false, map, string_bytes, subst, sym}
 use Rattle.std.specs.Prelude.{⊤}
 use Rattle.std.specs.Arc.{arc_value}
 use Rattle.lus_devices.specs.Devices.{one_more}

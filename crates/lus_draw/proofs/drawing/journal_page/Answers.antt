@@ -1,5 +1,5 @@
 -- What was gathered of lawful journals is drawn on a page.
-use Rattle.std.proofs.Common.{◌≡◌, ap, map, string_bytes, subst, sym, true, false, Some}
+use Rattle.std.proofs.Common.{◌≡◌, map, string_bytes, subst, sym, true, false, Some}
 use Rattle.std.proofs.lemmas.Bool.{true≢false}
 use Rattle.std.specs.Arc.{arc_value}
 use Rattle.lus_cli.specs.CodeSpecs.Codes.{program_of}

@@ -6,7 +6,7 @@ use Rattle.lus_program.specs.Resolved.{Resolved}
 use Rattle.lus_program.specs.View.{program_seen}
 use Rattle.lus_order.specs.Orders.{IsNarrow, NeedsVariables}
 use Rattle.lus_cli.specs.CodeSpecs.Codes.{program_of}
-use Rattle.lus_draw.specs.CommandLine.{Drawing, drawing_seen}
+use Rattle.lus_draw.specs.CommandLine.{drawing_seen}
 use Rattle.lus_draw.proofs.Accepted.{accepted_resolved, accepted_needs, accepted_narrow}
 use Rattle.lus_draw.proofs.Drawn.{drawn_begun}
 use Rattle.lus_draw.proofs.gathering.GatheringObservers.begin.Goals as goal

@@ -8,8 +8,8 @@ use Rattle.lus_draw.specs.declared.words.Format.{Format}
 use Rattle.lus_draw.proofs.Drawn.{gathered_so}
 use Rattle.lus_draw.proofs.gathering.GatheringObservers.end.Goals as goal
 
-pub returns-then-eq : goal.returns-then-eq
-returns-then-eq g c = λ js j same named seen gathered.
+pub returns-in_ok-keep : goal.returns-in_ok-keep
+returns-in_ok-keep g c = λ js j same named seen gathered.
     let d = g.K.Selects.wanted in
     let p = program_of c.args.program.now in
     let old = c.args.self.now in
