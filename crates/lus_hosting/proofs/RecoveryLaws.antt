@@ -1,5 +1,5 @@
 -- The lines of a log that were read so far, and how many bytes they have.
-use Rattle.std.proofs.Common.{◌≡◌, ◌∙◌, ◌+◌, ◌++◌, ◌<◌, ℕ, refl, ap, sym, subst, List, [], ◌∷◌, length, Option, Some, None, length-append, arith}
+use Rattle.std.proofs.Common.{◌≡◌, ◌∙◌, ◌+◌, ◌++◌, ℕ, refl, ap, sym, subst, List, [], ◌∷◌, length, Option, Some, None, length-append, arith}
 use Rattle.indexmap.specs.IndexMap.{get_by_text}
 use Rattle.lus_values.specs.Names.{Text}
 use Rattle.lus_program.specs.Programs.{Program}

@@ -1,5 +1,5 @@
 -- A call was made, or the line is denied.
-use Rattle.std.proofs.Common.{inr, subst, string_bytes}
+use Rattle.std.proofs.Common.{inr, subst}
 use Rattle.std.specs.Arc.{arc_value}
 use Rattle.std.proofs.lemmas.Result.{IfOk-weaker}
 use Rattle.lus_reactions.specs.Reactions.{IsCallTo}
