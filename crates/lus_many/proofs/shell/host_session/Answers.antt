@@ -1,5 +1,5 @@
 -- In the form that is asked for.
-use Rattle.std.proofs.Common.{◌≡◌, ◌∙◌, ap, subst, IfOk, OnErr}
+use Rattle.std.proofs.Common.{◌∙◌, ap, subst, IfOk, OnErr}
 use Rattle.std.specs.Arc.{arc_value}
 use Rattle.lus_cli.specs.CodeSpecs.Codes.{program_of}
 use Rattle.lus_hosting.specs.LiveSpecs.MachineSpecs.Constructors.{names_of}
