@@ -1,5 +1,5 @@
 -- Journals that are replayed, one behind another.
-use Rattle.std.proofs.Common.{◌≡◌, ◌∙◌, ◌+◌, ◌++◌, ◌<◌, ℕ, Bool, false, refl, ap, ap₂, sym, subst, List, [], ◌∷◌, length, Option, Some, None, append_assoc, append-nil, arith, codes}
+use Rattle.std.proofs.Common.{◌≡◌, ◌∙◌, ◌+◌, ◌++◌, ◌<◌, ℕ, Bool, false, inr, refl, ap, ap₂, sym, subst, List, [], ◌∷◌, length, Option, Some, None, append_assoc, append-nil, arith, codes}
 use Rattle.std.specs.List.{flat_map, sum_by}
 use Rattle.std.proofs.lemmas.List.{flat_map_more}
 use Rattle.std.proofs.lemmas.List.Elements.{All-nil, All-push}
@@ -23,7 +23,7 @@ use Rattle.lus_replay.specs.declared.replaying.Ending.{Ending}
 use Rattle.lus_replay.specs.declared.replaying.Ending.TheVariants as endings
 use Rattle.lus_replay.specs.declared.replaying.Replayed.{Replayed}
 use Rattle.lus_lawful.specs.Audits.{AreLawful, Gathers, HasAudited, HasReplayedLawfully, IsReported, TurnIs}
-use Rattle.lus_lawful.specs.Journals.{IsLawfulJournal, IsTail, Journal, entries_of, head_of, is_whole, journal_report, journal_text, lawful_text, line_count, reports, tail_before, wrong_text}
+use Rattle.lus_lawful.specs.Journals.{BeginsJournals, IsLawfulJournal, IsTail, Journal, entries_of, head_of, is_whole, journal_report, journal_text, lawful_text, line_count, reports, tail_before, wrong_text}
 use Rattle.lus_lawful.specs.Observed.{IsObserved}
 use Rattle.lus_lawful.specs.declared.auditing.Turn.{Turn}
 use Rattle.lus_lawful.specs.declared.auditing.Turn.TheVariants as turns
@@ -213,7 +213,7 @@ none_yet p Gathered left report gathered none = record {
   journals = [];
   lawful = All-nil (IsLawfulJournal p);
   gathered = gathered;
-  tailed = refl;
+  tailed = (refl, inr (codes "instance ", refl));
   read = front_nothing left;
   counted = refl;
   reported = none;
@@ -290,3 +290,24 @@ pub none_audited : (p : Program) (Gathered : List Journal → Type 0) (left late
     → w ≡ wholes.End → HasReadWhole w first left later → report ≡ [] → HasAudited p Gathered None left report
 none_audited p Gathered left later first report w gathered is read none =
     let last = subst (λ x. HasReadWhole x first left later) is read in ([], left, later, 0, none_yet p Gathered left report gathered none, last)
+
+-- or its first line is cut
+pub cut_audited : (p : Program) (Gathered : List Journal → Type 0) (left later : Option Bytes) (first report : Text) (w : Whole) → Gathered []
+    → w ≡ wholes.Unfinished → HasReadWhole w first left later → BeginsJournals first → report ≡ [] → HasAudited p Gathered None left report
+cut_audited p Gathered left later first report w gathered is read begins none =
+    let last = (subst (λ x. HasReadWhole x first left later) is read).0 in (
+      first,
+      left,
+      later,
+      0,
+      record {
+        journals = [];
+        lawful = All-nil (IsLawfulJournal p);
+        gathered = gathered;
+        tailed = (last.plain, begins);
+        read = front_nothing left;
+        counted = refl;
+        reported = none;
+      },
+      last,
+    )

@@ -1,5 +1,5 @@
 -- Journals that can be read back, found one behind another.
-use Rattle.std.proofs.Common.{◌≡◌, ◌∙◌, ◌+◌, ◌++◌, ◌<◌, ◌⊎◌, inl, inr, ℕ, Bool, true, false, ap, sym, subst, List, [], ◌∷◌, length, Option, Some, append_assoc, append-nil, arith}
+use Rattle.std.proofs.Common.{◌≡◌, ◌∙◌, ◌+◌, ◌++◌, ◌⊎◌, inl, inr, ℕ, Bool, true, false, ap, sym, subst, List, [], ◌∷◌, Option, Some, append_assoc, append-nil}
 use Rattle.std.specs.List.{All}
 use Rattle.std.proofs.lemmas.List.Elements.{All-head, All-tail}
 use Rattle.lus_values.specs.Names.{Text}
@@ -12,9 +12,9 @@ use Rattle.lus_live_instance.specs.MachineSpecs.Acceptance.{IsAccepted}
 use Rattle.lus_live_instance.specs.MachineSpecs.Constructors.{names_of}
 use Rattle.lus_replay.specs.Replays.{items_text}
 use Rattle.lus_replay.proofs.Follows.{at_end, front_known}
-use Rattle.lus_replay.proofs.Splits.{line_feeds, line_some, lines_split}
+use Rattle.lus_replay.proofs.Splits.{line_feeds, lines_split}
 use Rattle.lus_lawful.specs.Findings.{AreNone, Finds, FindsAll, GoesOn, IsBehind, IsNone, IsPassed, IsReadableJournal, IsStopped, IsToFind, IsWrongJournal, behind_text, first_line, texts}
-use Rattle.lus_lawful.specs.Journals.{IsTail, Journal, journal_report, line_count, tail_before}
+use Rattle.lus_lawful.specs.Journals.{BeginsJournals, IsTail, Journal, journal_report, line_count, tail_before}
 use Rattle.lus_lawful.specs.declared.auditing.Turn.{Turn}
 use Rattle.lus_lawful.specs.declared.auditing.Turn.TheVariants as turns
 use Rattle.lus_lawful.proofs.Firsts.{journal_first, rest_behind, rest_is, rest_of, texts_are}
@@ -54,7 +54,7 @@ module _ (p : Program) (accepted : IsAccepted p) where
           → (more : Text) × IsToFind p 0 ks tail all more × (text ≡ report ++ more))
           → Reached p js tail first left 0 report
       go [] all plain same find =
-          let known = front_known tail first left (sym same) in absurd (line_some first known.0 whole (sym known.2 ∙ plain))
+          let known = front_known tail first left (sym same) in absurd (line_feeds first known.0 whole (subst IsPlain known.2 plain.0))
       go (k ∷ ks) all plain same find =
           let known = front_known (texts p (k ∷ ks) ++ tail) first left (sym same) in
           let parts = lines_split first (first_line k.instance k.node) known.0 (behind_first k ks tail) whole
@@ -207,28 +207,32 @@ module _ (p : Program) (accepted : IsAccepted p) where
     pub none_found : w ≡ wholes.Line → AreNone p (with_front first mid) → AreNone p left
     none_found is none js tail readable tailed same = none js tail readable tailed (sym (whole_line is).1 ∙ same)
 
-    pub none_unfinished : w ≡ wholes.Unfinished → AreNone p left
-    none_unfinished is js tail readable tailed same = go js readable tailed same (subst (λ x. HasReadWhole x first left mid) is read)
+    -- journals have line feeds
+    no_journals : (bytes tail : Text) (k : Journal) (ks : List Journal) → IsLast bytes left mid → All (IsReadableJournal p) (k ∷ ks)
+        → left ≡ Some (texts p (k ∷ ks) ++ tail) → ⊥
+    no_journals bytes tail k ks last all here =
+        let end = at_end (texts p (k ∷ ks) ++ tail) bytes mid (sym here ∙ last.read) last.over in
+        line_feeds (first_line k.instance k.node) (behind_first k ks tail) (whole_first k (All-head (IsReadableJournal p) k ks all))
+        (subst IsPlain (sym end.1 ∙ texts_are p accepted k ks tail) last.plain)
+
+    pub none_unfinished : w ≡ wholes.Unfinished → (BeginsJournals first → ⊥) → AreNone p left
+    none_unfinished is begins js tail readable tailed same = go js readable tailed same (subst (λ x. HasReadWhole x first left mid) is read).0
       where
-        go : (ks : List Journal) → All (IsReadableJournal p) ks → IsTail ks tail → left ≡ Some (texts p ks ++ tail)
-            → IsLast first left mid × (0 < length first) → ⊥
+        go : (ks : List Journal) → All (IsReadableJournal p) ks → IsTail ks tail → left ≡ Some (texts p ks ++ tail) → IsLast first left mid → ⊥
         go [] all none here last =
-            let end = at_end tail first mid (sym here ∙ last.0.read) last.0.over in
-            let some = last.1 in
-            let empty : length first ≡ 0 = ap length (sym end.1 ∙ none) in
-            omega (arith, some, empty)
-        go (k ∷ ks) all plain here last =
-            let end = at_end (texts p (k ∷ ks) ++ tail) first mid (sym here ∙ last.0.read) last.0.over in
-            line_feeds (first_line k.instance k.node) (behind_first k ks tail) (whole_first k (All-head (IsReadableJournal p) k ks all))
-            (subst IsPlain (sym end.1 ∙ texts_are p accepted k ks tail) last.0.plain)
+            let end = at_end tail first mid (sym here ∙ last.read) last.over in begins (subst BeginsJournals end.1 none.1)
+        go (k ∷ ks) all plain here last = no_journals first tail k ks last all here
+
+    none_before : (bytes report : Text) → IsLast bytes left mid → report ≡ [] → FindsAll p true left report
+    none_before bytes report last empty js tail readable tailed same = go js readable same
+      where
+        go : (ks : List Journal) → All (IsReadableJournal p) ks → left ≡ Some (texts p ks ++ tail) → (all : Bool) (text : Text)
+            → IsToFind p 0 ks tail all text → (true ≡ all) × (report ≡ text)
+        go [] readable_all here all text find = (sym find.0, empty ∙ sym find.1)
+        go (k ∷ ks) readable_all here all text find = absurd (no_journals bytes tail k ks last readable_all here)
 
     pub none_there : (report : Text) → w ≡ wholes.End → report ≡ [] → FindsAll p true left report
-    none_there report is empty js tail readable tailed same = go (subst (λ x. HasReadWhole x first left mid) is read) js readable same
-      where
-        go : IsLast [] left mid → (ks : List Journal) → All (IsReadableJournal p) ks → left ≡ Some (texts p ks ++ tail) → (all : Bool) (text : Text)
-            → IsToFind p 0 ks tail all text → (true ≡ all) × (report ≡ text)
-        go last [] readable_all here all text find = (sym find.0, empty ∙ sym find.1)
-        go last (k ∷ ks) readable_all here all text find =
-            let end = at_end (texts p (k ∷ ks) ++ tail) [] mid (sym here ∙ last.read) last.over in
-            absurd (line_some (first_line k.instance k.node) (behind_first k ks tail) (whole_first k (All-head (IsReadableJournal p) k ks readable_all))
-            (sym (texts_are p accepted k ks tail) ∙ end.1))
+    none_there report is = none_before [] report (subst (λ x. HasReadWhole x first left mid) is read)
+
+    pub none_whole : (report : Text) → w ≡ wholes.Unfinished → report ≡ [] → FindsAll p true left report
+    none_whole report is = none_before first report (subst (λ x. HasReadWhole x first left mid) is read).0

@@ -1,5 +1,5 @@
 -- Journals with the names of their callers, and what an audit reports of them.
-use Rattle.std.specs.Prelude.{◌≡◌, ◌+◌, ◌++◌, ℕ, Bool, true, false, List, [], ◌∷◌, length, map, Some, codes}
+use Rattle.std.specs.Prelude.{◌≡◌, ◌⊎◌, ◌+◌, ◌++◌, ℕ, Bool, true, false, List, [], ◌∷◌, length, map, Some, codes}
 use Rattle.std.specs.List.{All}
 use Rattle.std.specs.Fmt.{decimal}
 use Rattle.lus_values.specs.Names.{Names, Text}
@@ -40,9 +40,13 @@ pub record IsLawfulJournal (p : Program) (j : Journal) : Type 0 where
 
 -- ---- where journals end
 
--- behind the last of these journals stand bytes without a line feed, where there is one
+-- bytes begin as journals do: with the first word of a first line, or where they end within it with a beginning of that
+abbrev pub BeginsJournals : Text → Type 0
+BeginsJournals bytes = ((rest : Text) × (bytes ≡ codes "instance " ++ rest)) ⊎ ((rest : Text) × (codes "instance " ≡ bytes ++ rest))
+
+-- behind the last of these journals stand bytes without a line feed, which where there is none begin as one does
 abbrev pub IsTail : List Journal → Text → Type 0
-IsTail [] tail = tail ≡ []
+IsTail [] tail = IsPlain tail × BeginsJournals tail
 IsTail (j ∷ js) tail = IsPlain tail
 
 -- what stands behind the lines of a journal before these, of such bytes

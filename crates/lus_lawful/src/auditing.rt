@@ -13,7 +13,7 @@ ghost use Rattle.lus_lawful.specs.Findings.{AreNone, Finds, FindsAll, FindsBehin
 ghost use Rattle.lus_lawful.specs.Journals.{Journal, entries_of, head_of, lawful_text};
 
 use crate::error::AuditError;
-use crate::head::{Head, read_head};
+use crate::head::{Head, begins_journals, read_head};
 use crate::observed::new_observed;
 use crate::observer::{Observer, Observers};
 use crate::texts::{push_lawful, push_wrong};
@@ -261,7 +261,7 @@ fn audit_all<S: Source, O: Observers>(
 
 /// Audits journals, one behind another: each is replayed on a new instance of its node, up to the first line that isn't right, and
 /// observed meanwhile. One that ends early, without the number of its entries or within a line, is audited to its last whole line, and
-/// the report says so. No more is kept than an instance, two lines, the report and the observers. It is an error of a line where that is
+/// the report says so; of one that ends within its first line it says nothing. No more is kept than an instance, two lines, the report and the observers. It is an error of a line where that is
 /// none of a journal, which no line is of journals that can be read back.
 pub fn audit<S: Source, O: Observers>(
     alloc: Global,
@@ -282,7 +282,13 @@ pub fn audit<S: Source, O: Observers>(
             let wrong = audit_all(alloc, program, first, source, observers, &mut text)?;
             Ok(Report { wrong, text })
         }
-        Whole::Unfinished => Err(AuditError::Line(1)),
+        Whole::Unfinished => {
+            if begins_journals(&first) {
+                Ok(Report { wrong: None, text })
+            } else {
+                Err(AuditError::Line(1))
+            }
+        }
         Whole::End => Ok(Report { wrong: None, text }),
     }
 }

@@ -1,8 +1,9 @@
 //! The first line of a journal.
 
 ghost use Rattle.std.specs.Prelude.{◌≡◌, ◌++◌, IfSome, codes};
+ghost use Rattle.std.specs.Bool.{Decides};
 ghost use Rattle.lus_lawful.specs.Heads.{ReadsHead};
-ghost use Rattle.lus_lawful.specs.Journals.{head_of};
+ghost use Rattle.lus_lawful.specs.Journals.{BeginsJournals, head_of};
 
 use std::str::from_utf8;
 
@@ -11,6 +12,14 @@ use std::str::from_utf8;
 pub(crate) struct Head<'a> {
     pub instance: &'a str,
     pub node: &'a str,
+}
+
+/// Whether bytes begin as journals do, so far as they go.
+pub fn begins_journals(bytes: &[u8]) -> bool
+    ensures { Decides result (BeginsJournals bytes.now) }
+{
+    let word = b"instance ".as_slice();
+    bytes.starts_with(word) || word.starts_with(bytes)
 }
 
 /// The names that a line has, with its line feed, if it is the first of a journal.

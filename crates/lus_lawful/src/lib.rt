@@ -10,5 +10,6 @@ mod texts;
 
 pub use auditing::{Report, audit};
 pub use error::AuditError;
+pub use head::begins_journals;
 pub use lus_lines::Buffered;
 pub use observer::{Observer, Observers, Unobserved};
