@@ -1,3 +1,4 @@
 pub mod Columns
 pub mod ColumnView
 pub mod Tables
+pub mod Parts

@@ -3,8 +3,10 @@
 
 mod given;
 mod lineage;
+mod parts;
 mod table;
 
 pub use given::given_rows;
 pub use lineage::Head;
-pub use table::{Column, Refusal, Table};
+pub use parts::{Part, is_instant};
+pub use table::{Column, Table};

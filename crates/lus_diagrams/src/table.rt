@@ -1,11 +1,13 @@
-//! The table of a journal, which grows entry by entry.
+//! The table of a journal, whose columns are given entry by entry.
 
 ghost use Rattle.std.specs.Prelude.{◌≡◌, ◌++◌, ◌+◌, ◌∷◌, [], IfOk, List, OnOk, length, map};
-ghost use Rattle.lus_diagrams.specs.Columns.{Noted, instants, marked, noted};
+ghost use Rattle.lus_diagrams.specs.Columns.{Column as PlainColumn, Noted, instants, marked, noted};
 ghost use Rattle.lus_diagrams.specs.ColumnView.{column_seen};
+ghost use Rattle.lus_diagrams.specs.Parts.{part_behind};
 ghost use Rattle.lus_diagrams.specs.Tables.{HasNoted};
 
 use crate::lineage::{Head, Lineage, event_of, lineage_behind};
+use crate::parts::{Part, is_within};
 use lus_requests::{Reply, Request};
 use lus_values::{Memory, Row};
 use std::alloc::Global;
@@ -19,85 +21,77 @@ pub struct Column {
     pub cells: Row,
 }
 
-/// A refused call: its line, and how many accepted instants stand before it.
-#[derive(Clone, Copy)]
-pub struct Refusal {
-    pub line: u64,
-    pub behind: u64,
-}
-
-/// The table of a journal so far, up to the line of this number, with so many accepted instants.
+/// How far the table of a part of a journal has come: up to the line of this number, with so many accepted instants.
 #[derive(Drop)]
 pub struct Table {
-    pub columns: Vec<Column>,
-    pub refusals: Vec<Refusal>,
     pub line: u64,
-    instants: u64,
+    pub instants: u64,
+    part: Part,
     lineage: Lineage,
 }
 
-/// Appends a column without cells, if there is an event.
+/// Appends a column without cells behind so many instants, if there is an event, and it is in the part.
 fn push_event(
     alloc: Global,
     columns: &mut Vec<Column>,
+    part: Part,
     line: u64,
+    behind: u64,
     event: Option<Head>,
 ) -> Result<(), Memory>
-    ensures { OnOk result (map column_seen columns.new.items ≡ map column_seen columns.old.items ++ marked event) }
+    ensures { OnOk result (map column_seen columns.new.items ≡ map column_seen columns.old.items ++ part_behind part behind (marked event)) }
 {
-    if let Some(head) = event {
+    if let Some(head) = event
+        && is_within(part, behind, head)
+    {
         let cells = Row::new(Vec::new(alloc));
         columns.push(Column { head, line, cells })?;
     }
     Ok(())
 }
 
-/// Appends the columns of instants, of which the first has the number behind this one, and gives the last number. More of them than a
+/// Appends those columns of instants behind so many that are in the part. The first has the number behind this one. More of them than a
 /// number counts have no room either.
 fn push_instants(
     columns: &mut Vec<Column>,
-    line: u64,
-    count: u64,
-    rows: Vec<Row>,
-) -> Result<u64, Memory>
-    ensures pushed { OnOk result (map column_seen columns.new.items ≡ map column_seen columns.old.items ++ instants count rows.items) }
-    ensures counted { IfOk result (λ n. n ≡ count + length rows.items) }
-{
-    let mut number = count;
-    for cells in rows {
-        let Some(next) = number.checked_add(1) else {
-            return Err(Memory);
-        };
-        number = next;
-        let head = Head::Instant(number);
-        columns.push(Column { head, line, cells })?;
-    }
-    Ok(number)
-}
-
-/// Appends the line of a call, if it was refused.
-fn push_refusal(
-    refusals: &mut Vec<Refusal>,
+    part: Part,
     line: u64,
     behind: u64,
-    reply: &Reply,
-) -> Result<(), Memory> {
-    if let Reply::Refused(_) = reply {
-        refusals.push(Refusal { line, behind })?;
+    count: u64,
+    rows: Vec<Row>,
+) -> Result<(), Memory>
+    ensures { OnOk result (map column_seen columns.new.items
+        ≡ map column_seen columns.old.items ++ part_behind part behind (instants count rows.items)) }
+{
+    let (mut place, mut number) = (behind, count);
+    for cells in rows {
+        number = more(number, 1)?;
+        let head = Head::Instant(number);
+        if is_within(part, place, head) {
+            columns.push(Column { head, line, cells })?;
+        }
+        place = more(place, 1)?;
     }
     Ok(())
 }
 
+/// So many more. More than a number counts have no room.
+fn more(count: u64, further: u64) -> Result<u64, Memory>
+    ensures { IfOk result (λ n. n ≡ count + further) }
+{
+    count.checked_add(further).ok_or(Memory)
+}
+
 impl Table {
-    /// Before the first entry of a journal whose first line has this number in its file.
-    pub fn new(alloc: Global, line: u64) -> Table
-        ensures { HasNoted [] result }
+    /// The table of a part before the first entry of a journal whose first line has this number in its file.
+    pub fn new(part: Part, line: u64) -> Table
+        ensures noted { HasNoted [] [] result }
+        ensures part { result.part ≡ part }
     {
         Table {
-            columns: Vec::new(alloc),
-            refusals: Vec::new(alloc),
             line,
             instants: 0,
+            part,
             lineage: Lineage {
                 count: 0,
                 saved: [0; 8],
@@ -105,30 +99,41 @@ impl Table {
         }
     }
 
+    /// Whether calls that are refused here are in the part: before its first instant, and up to the one behind its last.
+    pub fn shows_refusals(&self) -> bool {
+        self.part.from.saturating_sub(1) <= self.instants && self.instants <= self.part.to
+    }
+
     /// Goes on behind a line that is no entry.
     pub fn pass(&mut self)
-        ensures { (es : List Noted) → HasNoted es self.old → HasNoted es self.new }
+        ensures noted { (columns : List PlainColumn) (es : List Noted) → HasNoted columns es self.old → HasNoted columns es self.new }
+        ensures part { self.new.part ≡ self.old.part }
     {
         self.line = self.line.saturating_add(1);
     }
 
-    /// Goes on behind an entry, the next of the journal, with the cells of each instant that it accepted.
+    /// Goes on behind an entry, the next of the journal, with the cells of each instant that it accepted, and gives its columns.
     pub fn note(
         &mut self,
         alloc: Global,
         request: &Request,
         reply: &Reply,
         rows: Vec<Row>,
-    ) -> Result<(), Memory>
-        ensures { OnOk result ((es : List Noted) → HasNoted es self.old → HasNoted (es ++ noted request.now reply.now rows.items ∷ []) self.new) }
+    ) -> Result<Vec<Column>, Memory>
+        ensures noted { IfOk result (λ new. (columns : List PlainColumn) (es : List Noted) → HasNoted columns es self.old
+            → HasNoted (columns ++ map column_seen new.items) (es ++ noted request.now reply.now rows.items ∷ []) self.new) }
+        ensures part { self.new.part ≡ self.old.part }
     {
         self.line = self.line.saturating_add(1);
-        push_refusal(&mut self.refusals, self.line, self.instants, reply)?;
-        let event = event_of(rows.len(), request, reply);
-        push_event(alloc, &mut self.columns, self.line, event)?;
-        self.instants = self.instants.saturating_add(rows.len() as u64);
-        self.lineage.count = push_instants(&mut self.columns, self.line, self.lineage.count, rows)?;
+        let (part, line, behind, count) = (self.part, self.line, self.instants, self.lineage.count);
+        let further = rows.len();
+        let event = event_of(further, request, reply);
+        self.instants = more(behind, further as u64)?;
+        self.lineage.count = more(count, further as u64)?;
         self.lineage = lineage_behind(self.lineage, event);
-        Ok(())
+        let mut columns = Vec::new(alloc);
+        push_event(alloc, &mut columns, part, line, behind, event)?;
+        push_instants(&mut columns, part, line, behind, count, rows)?;
+        Ok(columns)
     }
 }

@@ -1,39 +1,104 @@
--- What is drawn of journals, one behind another, and of parts of them.
-use Rattle.std.proofs.Common.{ℕ, subst, ◌≡◌, ◌++◌, List, [], ◌∷◌, Option, Some, None, ◌∙◌, ap, map, refl, sym, append_assoc, string_bytes}
-use Rattle.std.specs.Option.{option_or}
+-- What is drawn of journals, one behind another.
+use Rattle.std.proofs.Common.{ℕ, subst, ◌≡◌, ◌++◌, List, [], ◌∷◌, Option, Some, None, ◌∙◌, ap, flat_map, map, refl, sym, append_assoc, append-nil}
+use Rattle.std.proofs.lemmas.Grind.{flat_map-append}
+use Rattle.std.proofs.lemmas.List.{map-append}
 use Rattle.std.specs.Global.{Vec}
-use Rattle.std.specs.Prelude.{MatchOption}
+use Rattle.std.specs.Option.{option_or}
+use Rattle.std.specs.Prelude.{Err, MatchOption, Ok, OnOk, Result}
 use Rattle.lus_program.specs.Programs.{Program}
-use Rattle.lus_diagrams.specs.ColumnView.{column_seen}
-use Rattle.lus_traces.specs.declared.parts.Part.{Part}
-use Rattle.lus_lawful.specs.Journals.{Journal}
-use Rattle.lus_sketches.specs.Selections.{Selection}
-use Rattle.lus_sketches.specs.Sketches.{IsFailure}
+use Rattle.lus_requests.specs.declared.request.Entry.{Entry}
+use Rattle.lus_printable.specs.Printable.{printable}
+use Rattle.lus_diagrams.specs.Columns.{Column, columns_of}
+use Rattle.lus_diagrams.specs.Parts.{part_of}
+use Rattle.lus_lawful.specs.Journals.{Journal, entries_of}
+use Rattle.lus_sketches.specs.Sketches.{HasSketched, IsFailure, IsSketch, picks_in}
 use Rattle.lus_sketches.specs.declared.sketches.Failure.{Failure}
-use Rattle.lus_traces.specs.declared.trace.Trace.{Trace as Drawn}
+use Rattle.lus_sketches.specs.declared.sketches.Sketch.{Sketch}
 use Rattle.lus_traces.specs.Pages.{line_seen, page_text, text_of, whole_lines}
 use Rattle.lus_traces.specs.declared.lines.Line as code
-use Rattle.lus_cli.specs.CommandLine.{Text}
-use Rattle.lus_cli.specs.MachineSpecs.Formals.{node_named}
-use Rattle.lus_diagrams.specs.declared.table.Table.{Table}
-use Rattle.lus_lawful.specs.Journals.{entries_of}
-use Rattle.lus_sketches.specs.Sketches.{HasSketched, IsSketch, IsTable, picks_in}
-use Rattle.lus_sketches.specs.declared.sketches.Sketch.{Sketch}
-use Rattle.lus_traces.specs.Traces.{name_of, trace_of, trace_seen}
+use Rattle.lus_traces.specs.Tables.{head_text, named_text, table_text}
+use Rattle.lus_traces.specs.Traces.{Trace, name_of}
 use Rattle.lus_traces.specs.declared.trace.Signal.{Signal}
-use Rattle.lus_draw.specs.Drawings.{AreTraces, DrawsLines, texts}
-use Rattle.lus_draw.specs.Gatherings.{AreDrawn, FailsIn, HasGathered, IsDrawn}
+use Rattle.lus_cli.specs.CommandLine.{Text}
+use Rattle.lus_cli.specs.MachineSpecs.Constructors.{names_of}
+use Rattle.lus_cli.specs.MachineSpecs.Formals.{node_named}
+use Rattle.lus_draw.specs.CommandLine.{Drawing}
+use Rattle.lus_draw.specs.Drawings.{DrawsLines, texts}
+use Rattle.lus_draw.specs.Gatherings.{AreDrawn, AreTraces, AsCsv, FailsIn, HasDrawn, HasGathered, IsTrace}
+use Rattle.lus_draw.specs.declared.words.Format.{Format}
+use Rattle.lus_draw.specs.declared.words.Format.TheVariants as formats
 
-module _ (s : Selection) (p : Program) where
-  -- one journal more
-  pub drawn_next : (js : List Journal) (ds : List Drawn) (j : Journal) (d : Drawn) → AreDrawn s p js ds → IsDrawn s p j d → AreDrawn s p (js ++ j ∷ []) (ds ++ d ∷ [])
-  drawn_next [] [] j d are is = (is, tt)
-  drawn_next (i ∷ js) (e ∷ ds) j d (first, are) is = (first, drawn_next js ds j d are is)
-  drawn_next _ _ j d never is = absurd never
+-- ---- CSV
+
+pub csv_so : (f : Format) (P : Type 0) → (f ≡ formats.Csv → P) → AsCsv f P
+csv_so formats.Csv P so = so refl
+csv_so formats.Text P so = tt
+csv_so formats.Waves P so = tt
+csv_so formats.Html P so = tt
+csv_so formats.Vcd P so = tt
+
+of_csv : (f : Format) (P : Type 0) → f ≡ formats.Csv → AsCsv f P → P
+of_csv f P is so = subst (λ g. AsCsv g P) is so
+
+pub if_ok : {T E P : Type 0} (r : Result T E) → P → OnOk r P
+if_ok (Ok x) so = so
+if_ok (Err e) so = tt
+
+module _ (d : Drawing) (p : Program) where
+  -- ---- as entries come
+
+  abbrev traced : Sketch → Text → List Column → Trace
+  traced k instance columns = record { instance = instance; names = map name_of k.signals.items; columns = columns }
+
+  -- before the first entry
+  pub drawn_begun : (node : ℕ) (k : Sketch) (instance table : Text) → HasSketched d.selection p node [] [] k
+      → AsCsv d.format (table ≡ head_text (map name_of k.signals.items)) → HasDrawn d p node [] k instance table
+  drawn_begun node k instance table sketched head = record {
+    columns = [];
+    sketched = sketched;
+    written = csv_so d.format (table ≡ table_text (names_of p) (traced k instance []))
+        (λ e. of_csv d.format (table ≡ head_text (map name_of k.signals.items)) e head ∙ sym (append-nil (head_text (map name_of k.signals.items))));
+  }
+
+  module _ (node : ℕ) (h h' : List Entry) (k k' : Sketch) (same : k'.signals ≡ k.signals) (instance old new : Text) where
+    renamed : (columns : List Column) (table : Text) → AsCsv d.format (table ≡ table_text (names_of p) (traced k instance columns))
+        → AsCsv d.format (table ≡ table_text (names_of p) (traced k' instance columns))
+    renamed columns table =
+        subst (λ (v : Vec Signal). AsCsv d.format (table ≡ table_text (names_of p) (record { instance = instance; names = map name_of v.items; columns = columns }))) (sym same)
+
+    -- columns came, and were written
+    pub drawn_on : (cs : List Column) → ((columns : List Column) → HasSketched d.selection p node h columns k → HasSketched d.selection p node h' (columns ++ cs) k')
+        → (d.format ≡ formats.Csv → new ≡ old ++ flat_map (named_text (names_of p) (printable instance) (map name_of k'.signals.items)) cs)
+        → HasDrawn d p node h k instance old → HasDrawn d p node h' k' instance new
+    drawn_on cs on text is =
+        let names = map name_of k'.signals.items in
+        let line = named_text (names_of p) (printable instance) names in
+        let before = flat_map line is.columns in
+        record {
+          columns = is.columns ++ cs;
+          sketched = on is.columns is.sketched;
+          written = csv_so d.format (new ≡ table_text (names_of p) (traced k' instance (is.columns ++ cs))) (λ e.
+              text e ∙ ap (λ t. t ++ flat_map line cs) (of_csv d.format (old ≡ table_text (names_of p) (traced k' instance is.columns)) e (renamed is.columns old is.written))
+              ∙ append_assoc (head_text names) before (flat_map line cs)
+              ∙ ap (λ t. head_text names ++ t) (sym (flat_map-append line is.columns cs)));
+        }
+
+    -- a line came that is no entry
+    pub drawn_passed : ((columns : List Column) → HasSketched d.selection p node h columns k → HasSketched d.selection p node h' columns k')
+        → HasDrawn d p node h k instance old → HasDrawn d p node h' k' instance old
+    drawn_passed on is = record { columns = is.columns; sketched = on is.columns is.sketched; written = renamed is.columns old is.written }
+
+  -- ---- as journals come
+
+  traces_next : (js : List Journal) (ts : List Trace) (j : Journal) (t : Trace) → AreTraces d.selection p d.part js ts → IsTrace d.selection p d.part j t
+      → AreTraces d.selection p d.part (js ++ j ∷ []) (ts ++ t ∷ [])
+  traces_next [] [] j t are is = (is, tt)
+  traces_next (i ∷ js) (u ∷ ts) j t (first, are) is = (first, traces_next js ts j t are is)
+  traces_next _ _ j t never is = absurd never
 
   -- why one of journals isn't drawn says so of more
-  fails_on : (js : List Journal) (j : Journal) (f : Failure) → FailsIn s p js f → FailsIn s p (js ++ j ∷ []) f
-  fails_on js j f failed = record {
+  fails_on : (js : List Journal) (j : Journal) (e : Failure) → FailsIn d.selection p js e → FailsIn d.selection p (js ++ j ∷ []) e
+  fails_on js j e failed = record {
     before = failed.before;
     journal = failed.journal;
     behind = failed.behind ++ j ∷ [];
@@ -43,50 +108,67 @@ module _ (s : Selection) (p : Program) where
     fails = failed.fails;
   }
 
-  -- one journal more, whose drawing may have failed
-  pub gathered_next : (js : List Journal) (j : Journal) (ds : List Drawn) (d : Drawn) (old found : Option Failure) → HasGathered s p js old ds
-      → MatchOption found (IsDrawn s p j d) (FailsIn s p (js ++ j ∷ [])) → HasGathered s p (js ++ j ∷ []) (option_or old found) (ds ++ d ∷ [])
-  gathered_next js j ds d (Some f) found failed is = fails_on js j f failed
-  gathered_next js j ds d None (Some f) are failed = failed
-  gathered_next js j ds d None None are is = drawn_next js ds j d are is
+  -- one journal is drawn
+  record IsOne (j : Journal) (table : Text) : Type 0 where
+    pub trace : Trace
+    pub is : IsTrace d.selection p d.part j trace
+    pub written : AsCsv d.format (table ≡ table_text (names_of p) trace)
 
-  sketched : (j : Journal) (f : ℕ) (k : Sketch) (d : Drawn) → node_named p j.node ≡ Some f → string_bytes d.heading.instance ≡ j.instance
-      → d.signals ≡ k.signals → d.table ≡ k.table → IsSketch s p f (entries_of j) k → IsDrawn s p j d
-  sketched j f k d named called signals table is =
-      let shown : IsTable s p f (entries_of j) (map name_of k.signals.items) (map column_seen k.table.columns.items) = record {
-        picks = picks_in k.view;
-        noted = is.noted;
-        signals = is.signals;
-        cells = is.cells;
-        drawn = is.table.columns;
-      } in
-      let same_names = subst (λ (v : Vec Signal). IsTable s p f (entries_of j) (map name_of v.items) (map column_seen k.table.columns.items)) (sym signals) shown in
+  gathered_next : (js : List Journal) (j : Journal) (tables new : List Text) (table : Text) (old found : Option Failure)
+      → AsCsv d.format (new ≡ tables ++ table ∷ []) → HasGathered d p js old tables
+      → MatchOption found (IsOne j table) (FailsIn d.selection p (js ++ j ∷ [])) → HasGathered d p (js ++ j ∷ []) (option_or old found) new
+  gathered_next js j tables new table (Some e) found pushed failed is = fails_on js j e failed
+  gathered_next js j tables new table None (Some e) pushed are failed = failed
+  gathered_next js j tables new table None None pushed are one =
+      let text = table_text (names_of p) in
       record {
-        node = f;
-        named = named;
-        called = called;
-        table = subst (λ (t : Table). IsTable s p f (entries_of j) (map name_of d.signals.items) (map column_seen t.columns.items)) (sym table) same_names;
+        traces = are.traces ++ one.trace ∷ [];
+        are = traces_next js are.traces j one.trace are.are one.is;
+        written = csv_so d.format (new ≡ map text (are.traces ++ one.trace ∷ [])) (λ e.
+            of_csv d.format (new ≡ tables ++ table ∷ []) e pushed
+            ∙ (λ x. of_csv d.format (tables ≡ map text are.traces) e are.written x ++ of_csv d.format (table ≡ text one.trace) e one.written x ∷ [])
+            ∙ sym (map-append text are.traces (one.trace ∷ [])));
       }
 
-  sketched_or : (js : List Journal) (j : Journal) (f : ℕ) (k : Sketch) (d : Drawn) (failure : Option Failure) → node_named p j.node ≡ Some f
-      → (IsSketch s p f (entries_of j) k → IsDrawn s p j d) → MatchOption failure (IsSketch s p f (entries_of j) k) (IsFailure s p f (entries_of j))
-      → MatchOption failure (IsDrawn s p j d) (FailsIn s p (js ++ j ∷ []))
-  sketched_or js j f k d None named so is = so is
-  sketched_or js j f k d (Some e) named so failed =
-      record { before = js; journal = j; behind = []; stands = refl; node = f; named = named; fails = failed }
+  module _ (js : List Journal) (j : Journal) (node : ℕ) (k : Sketch) (instance table : Text) (columns : List Column)
+      (named : node_named p j.node ≡ Some node) (called : instance ≡ j.instance) (same : k.table.part ≡ d.part)
+      (written : AsCsv d.format (table ≡ table_text (names_of p) (traced k instance columns))) where
+    one : IsSketch d.selection p node (entries_of j) columns k → IsOne j table
+    one i =
+        let all = columns_of i.noted in
+        let these : columns ≡ part_of d.part all = i.table.columns_are ∙ ap (λ q. part_of q all) same in
+        record {
+          trace = traced k j.instance (part_of d.part all);
+          is = record {
+            whole = traced k j.instance all;
+            table = record {
+              node = node;
+              named = named;
+              called = refl;
+              table = record { picks = picks_in k.view; noted = i.noted; signals = i.signals; cells = i.cells; drawn = refl };
+            };
+            cut = refl;
+          };
+          written = csv_so d.format (table ≡ table_text (names_of p) (traced k j.instance (part_of d.part all))) (λ e.
+              of_csv d.format (table ≡ table_text (names_of p) (traced k instance columns)) e written
+              ∙ (λ x. table_text (names_of p) (traced k (called x) (these x))));
+        }
+
+    one_or : (failure : Option Failure) → MatchOption failure (IsSketch d.selection p node (entries_of j) columns k) (IsFailure d.selection p node (entries_of j))
+        → MatchOption failure (IsOne j table) (FailsIn d.selection p (js ++ j ∷ []))
+    one_or None is = one is
+    one_or (Some e) failed = record { before = js; journal = j; behind = []; stands = refl; node = node; named = named; fails = failed }
 
   -- one journal more, of which this was drawn
-  pub gathered_so : (js : List Journal) (j : Journal) (ds : List Drawn) (f : ℕ) (k : Sketch) (d : Drawn) (old : Option Failure)
-      → node_named p j.node ≡ Some f → string_bytes d.heading.instance ≡ j.instance → d.signals ≡ k.signals → d.table ≡ k.table
-      → HasSketched s p f (entries_of j) k → HasGathered s p js old ds → HasGathered s p (js ++ j ∷ []) (option_or old k.failure) (ds ++ d ∷ [])
-  gathered_so js j ds f k d old named called signals table is are =
-      gathered_next js j ds d old k.failure are (sketched_or js j f k d k.failure named (sketched j f k d named called signals table) is)
+  pub gathered_so : (js : List Journal) (j : Journal) (node : ℕ) (k : Sketch) (instance table : Text) (tables new : List Text) (old : Option Failure)
+      → node_named p j.node ≡ Some node → instance ≡ j.instance → k.table.part ≡ d.part → AsCsv d.format (new ≡ tables ++ table ∷ [])
+      → HasDrawn d p node (entries_of j) k instance table → HasGathered d p js old tables
+      → HasGathered d p (js ++ j ∷ []) (option_or old k.failure) new
+  gathered_so js j node k instance table tables new old named called same pushed is are =
+      gathered_next js j tables new table old k.failure pushed are
+      (one_or js j node k instance table is.columns named called same is.written k.failure is.sketched)
 
-  -- the traces of a part
-  pub traced : (part : Part) (js : List Journal) (ds : List Drawn) → AreDrawn s p js ds → AreTraces s p part js (map (trace_of part) ds)
-  traced part [] [] are = tt
-  traced part (j ∷ js) (d ∷ ds) (first, are) = (record { whole = trace_seen d; table = first; cut = refl }, traced part js ds are)
-  traced part _ _ never = absurd never
+-- ---- pages
 
 lines_texts : (ls : List code.Line) → texts (map line_seen ls) ≡ map text_of ls
 lines_texts [] = refl

@@ -4,7 +4,7 @@ use Rattle.clap.specs.Words.{App, Row, first_of}
 use Rattle.lus_cli.specs.CommandLine.{Text, asked_of, bare, is_set, with_flag, with_optional, with_required, with_value}
 use Rattle.lus_asked.specs.Reading.{number_below}
 use Rattle.lus_sketches.specs.Selections.{Selection, formals, named, selection_seen}
-use Rattle.lus_traces.specs.declared.parts.Part.{Part}
+use Rattle.lus_diagrams.specs.declared.parts.Part.{Part}
 use Rattle.lus_draw.specs.declared.words.Drawing.{Drawing as StoredDrawing}
 use Rattle.lus_draw.specs.declared.words.Format.{Format}
 use Rattle.lus_draw.specs.declared.words.Format.TheVariants as formats

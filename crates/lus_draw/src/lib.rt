@@ -5,6 +5,7 @@
 
 mod drawing;
 mod gathering;
+mod reading;
 mod shell;
 mod words;
 

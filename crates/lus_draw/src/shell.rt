@@ -1,19 +1,45 @@
 //! The command line over a folder.
 
-ghost use Rattle.std.specs.Prelude.{◌≡◌, IfErr, IfOk, map, string_bytes};
+ghost use Rattle.std.specs.Prelude.{◌≡◌, IfErr, IfOk, Some, map, string_bytes};
+ghost use Rattle.std.specs.Arc.{arc_value};
 ghost use Rattle.lus_cli.specs.Changes.{change};
 ghost use Rattle.lus_cli.specs.Ends.{AskedEnds, Ends, ReadFails, SaysEnds};
+ghost use Rattle.lus_cli.specs.CodeSpecs.Codes.{program_of};
 ghost use Rattle.lus_draw.specs.CommandLine.{asked, drawing_seen, task_seen};
-ghost use Rattle.lus_draw.specs.Ends.{DrawFails, DrawingFails, IsDrawing, IsDrawn, PageFails, TaskEnds};
-ghost use Rattle.lus_draw.specs.Drawings.{IsLinePage};
+ghost use Rattle.lus_draw.specs.Ends.{DrawFails, DrawingFails, IsDrawing, IsDrawn, JournalFails, PageFails, TaskEnds};
+ghost use Rattle.lus_draw.specs.Drawings.{Draws, IsLinePage};
 ghost use Rattle.lus_devices.specs.Folders.{WithFile};
 
-use crate::drawing::{drawing, line_page};
+use crate::drawing::{drawing, is_page, journal_page, line_page};
 use crate::words::{Drawing, Task, read_words};
+use lus_cli::lus_host::Program;
 use lus_cli::{Fault, read_file, read_program, tell};
 use lus_devices::{Folder, Sink, write_all};
 use std::alloc::Global;
+use std::marker::Brand;
 use std::sync::Arc;
+
+/// Draws the journals of a file, of a program's nodes: as a page once all of it is read, else as it is read.
+fn draw_file<D: Folder>(
+    alloc: Global,
+    folder: &D,
+    task: Drawing<'_>,
+    program: &Arc<Program>,
+) -> Result<String, Fault>
+    ensures drawn { IfOk result (λ s. WithFile (D.known folder.now task.entry.journal.now)
+        (λ bytes. Draws (program_of (arc_value program.now)) (drawing_seen task.entry) (Some bytes) (string_bytes s))) }
+    ensures fault { IfErr result (λ f. JournalFails (ReadFails D.File D.File.left D.File.failures) (D.known folder.now task.entry.journal.now)
+        (program_of (arc_value program.now)) (drawing_seen task.entry) f) }
+{
+    if is_page(task.format) {
+        let bytes = read_file(alloc, folder, task.journal, usize::MAX)?;
+        return journal_page::<Brand>(alloc, task, program, &bytes);
+    }
+    match folder.open(task.journal) {
+        Ok(journal) => drawing::<_, Brand>(alloc, task, program, journal),
+        Err(_) => Err(Fault::File),
+    }
+}
 
 /// Draws the journals of a file, of nodes of the program of another.
 fn draw_journals<D: Folder>(alloc: Global, folder: &D, task: Drawing<'_>) -> Result<String, Fault>
@@ -26,8 +52,7 @@ fn draw_journals<D: Folder>(alloc: Global, folder: &D, task: Drawing<'_>) -> Res
     let Ok(program) = Arc::new(alloc, program) else {
         return Err(Fault::Memory);
     };
-    let bytes = read_file(alloc, folder, task.journal, usize::MAX)?;
-    drawing(alloc, task, &program, &bytes)
+    draw_file(alloc, folder, task, &program)
 }
 
 /// Draws the lines of a file of journals.

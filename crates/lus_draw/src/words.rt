@@ -11,8 +11,8 @@ use lus_cli::{
     WordsError, bare, is_set, matches, value_of, with_flag, with_optional, with_required,
     with_value,
 };
+use lus_diagrams::Part;
 use lus_sketches::{Selection, number};
-use lus_traces::Part;
 use std::alloc::{AllocError, Global};
 
 /// What is written of journals: tables as text, a picture of waves, a page of HTML, tables as CSV, or a value change dump.

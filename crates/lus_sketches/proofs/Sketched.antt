@@ -1,6 +1,5 @@
 -- What is drawn behind one entry more.
-use Rattle.std.proofs.Common.{◌≡◌, ◌∙◌, ◌++◌, ◌∷◌, ℕ, true, false, List, [], Option, Some, None, IsSome, MatchOption, is_some, map, ap, append_assoc, append-nil, subst, sym}
-use Rattle.std.proofs.Common.{Result, Ok, Err, OnOk}
+use Rattle.std.proofs.Common.{◌≡◌, ◌∙◌, ◌++◌, ◌∷◌, ℕ, true, false, List, [], Option, Some, None, IsSome, MatchOption, is_some, map, ap, append_assoc, append-nil, refl, subst, sym}
 use Rattle.std.proofs.lemmas.Bool.{true≢false}
 use Rattle.lus_values.specs.Names.{Text}
 use Rattle.lus_values.specs.Values.{Row}
@@ -10,7 +9,7 @@ use Rattle.lus_requests.specs.declared.request.Reply.{Reply}
 use Rattle.lus_requests.specs.declared.request.Request.{Request}
 use Rattle.lus_history.specs.Histories.{History}
 use Rattle.lus_play.specs.Plays.{entry_of}
-use Rattle.lus_diagrams.specs.Columns.{Noted, noted}
+use Rattle.lus_diagrams.specs.Columns.{Column, Noted, noted}
 use Rattle.lus_diagrams.specs.Tables.{HasNoted}
 use Rattle.lus_traces.specs.Traces.{name_of}
 use Rattle.lus_windows.specs.declared.picks.Pick.{Pick}
@@ -39,9 +38,10 @@ pub failed_on : (A B : Type 0) (P Q : Failure → Type 0) (o : Option Failure) �
 failed_on A B P Q None some on is = absurd (true≢false (sym some))
 failed_on A B P Q (Some w) some on is = on w is
 
-pub if_ok : {A E P Q : Type 0} (r : Result A E) → (P → Q) → OnOk r P → OnOk r Q
-if_ok (Ok x) on is = on is
-if_ok (Err x) on is = tt
+-- what was drawn may be said otherwise
+pub drawn_as : {A B : Type 0} (P : Failure → Type 0) (o : Option Failure) → (A → B) → MatchOption o A P → MatchOption o B P
+drawn_as P None on is = on is
+drawn_as P (Some w) on is = is
 
 module _ (s : Selection) (p : Program) (f : ℕ) where
   -- what is picked isn't the inputs and outputs alone
@@ -61,9 +61,9 @@ module _ (s : Selection) (p : Program) (f : ℕ) where
     },
   )
 
-  pub lost_now : (h : List Entry) (q : Request) (r : Reply) (k : Sketch) (new : Option View) (n : ℕ) → GivesCells p q r k.view new None → IsSketch s p f h k
+  pub lost_now : (h : List Entry) (q : Request) (r : Reply) (k : Sketch) (new : Option View) (n : ℕ) (columns : List Column) → GivesCells p q r k.view new None → IsSketch s p f h columns k
       → IsFailure s p f (h ++ entry_of q r ∷ []) (failures.Lost n)
-  lost_now h q r k new n gives i =
+  lost_now h q r k new n columns gives i =
       let all = h ++ entry_of q r ∷ [] in (
         picked_only (map name_of k.signals.items) (picks_in k.view) gives.cells.0 i.signals,
         record { before = all; behind = []; stands = sym (append-nil all); none = gives.cells.1 f h i.followed },
@@ -75,14 +75,15 @@ module _ (s : Selection) (p : Program) (f : ℕ) where
 
   module _ (h : List Entry) (q : Request) (r : Reply) (k k' : Sketch) (same : k'.signals ≡ k.signals) where
     pub sketched : (rows : List Row) → GivesCells p q r k.view k'.view (Some rows)
-        → ((es : List Noted) → HasNoted es k.table → HasNoted (es ++ noted q r rows ∷ []) k'.table)
-        → IsSketch s p f h k → IsSketch s p f (h ++ entry_of q r ∷ []) k'
-    sketched rows gives on i = record {
+        → (new : List Column)
+        → ((columns : List Column) (es : List Noted) → HasNoted columns es k.table → HasNoted (columns ++ new) (es ++ noted q r rows ∷ []) k'.table)
+        → (columns : List Column) → IsSketch s p f h columns k → IsSketch s p f (h ++ entry_of q r ∷ []) (columns ++ new) k'
+    sketched rows gives new on columns i = record {
       noted = i.noted ++ noted q r rows ∷ [];
       signals = subst (λ v. AreChosen p f s (map name_of v.items) (picks_in k'.view)) (sym same)
           (subst (λ ks. AreChosen p f s (map name_of k.signals.items) ks) (sym gives.picks) i.signals);
       cells = subst (λ ks. AreNoted p f ks [] (h ++ entry_of q r ∷ []) (i.noted ++ noted q r rows ∷ [])) (sym gives.picks)
           (noted_next p f (picks_in k.view) [] h (entry_of q r) i.noted rows i.cells (gives.cells f h i.followed));
-      table = on i.noted i.table;
+      table = on columns i.noted i.table;
       followed = gives.followed f h i.followed;
     }

@@ -64,16 +64,17 @@ abbrev pub IsFollowed : Program → ℕ → List Entry → Option View → Type 
 IsFollowed p f h None = ⊤
 IsFollowed p f h (Some v) = HasFollowed p f h v.window
 
-pub record IsSketch (s : Selection) (p : Program) (f : ℕ) (h : List Entry) (k : Sketch) : Type 0 where
+-- these are the columns of entries
+pub record IsSketch (s : Selection) (p : Program) (f : ℕ) (h : List Entry) (columns : List Column) (k : Sketch) : Type 0 where
   pub noted : List Noted
   pub signals : AreChosen p f s (map name_of k.signals.items) (picks_in k.view)
   pub cells : AreNoted p f (picks_in k.view) [] h noted
-  pub table : HasNoted noted k.table
+  pub table : HasNoted columns noted k.table
   pub followed : IsFollowed p f h k.view
 
 -- these entries are drawn, or it is known why they aren't
-abbrev pub HasSketched : Selection → Program → ℕ → List Entry → Sketch → Type 0
-HasSketched s p f h k = MatchOption k.failure (IsSketch s p f h k) (IsFailure s p f h)
+abbrev pub HasSketched : Selection → Program → ℕ → List Entry → List Column → Sketch → Type 0
+HasSketched s p f h columns k = MatchOption k.failure (IsSketch s p f h columns k) (IsFailure s p f h)
 
 -- the cells behind one entry more, unless a world is lost: there are no streams then
 pub record GivesCells (p : Program) (request : Request) (reply : Reply) (old new : Option View) (given : Option (List Row)) : Type 0 where
@@ -84,3 +85,8 @@ pub record GivesCells (p : Program) (request : Request) (reply : Reply) (old new
 
 abbrev pub BeginsView : Program → ℕ → Option (List Pick) → Option View → Type 0
 BeginsView p f picks o = (picks_in o ≡ picks) × IsFollowed p f [] o
+
+-- it has the signals and the part that it had
+pub record IsSameSketch (old new : Sketch) : Type 0 where
+  pub signals : new.signals ≡ old.signals
+  pub part : new.table.part ≡ old.table.part

@@ -1,6 +1,6 @@
 //! What is drawn of a journal, as its entries are replayed.
 
-ghost use Rattle.std.specs.Prelude.{◌≡◌, ◌<◌, ◌++◌, ◌∷◌, ℕ, List, [], IfOk, OnOk, length, option_map};
+ghost use Rattle.std.specs.Prelude.{◌≡◌, ◌<◌, ◌++◌, ◌∷◌, ℕ, List, [], IfOk, length, map, option_map};
 ghost use Rattle.lus_values.specs.Lists.{Each};
 ghost use Rattle.lus_program.specs.Programs.{Program as PlainProgram};
 ghost use Rattle.lus_program.specs.Resolved.{Resolved};
@@ -10,12 +10,14 @@ ghost use Rattle.lus_streams.specs.OnClock.{ProgramOnClocks};
 ghost use Rattle.lus_streams.specs.Order.{IsCausal};
 ghost use Rattle.lus_order.specs.Orders.{IsNarrow, NeedsVariables};
 ghost use Rattle.lus_play.specs.Plays.{entry_of};
+ghost use Rattle.lus_diagrams.specs.Columns.{Column as PlainColumn};
+ghost use Rattle.lus_diagrams.specs.ColumnView.{column_seen};
 ghost use Rattle.lus_sketches.specs.Selections.{Selection as PlainSelection, selection_seen};
-ghost use Rattle.lus_sketches.specs.Sketches.{BeginsView, GivesCells, HasSketched};
+ghost use Rattle.lus_sketches.specs.Sketches.{BeginsView, GivesCells, HasSketched, IsSameSketch};
 
 use crate::selection::Selection;
 use crate::signals::{Choice, choose};
-use lus_diagrams::{Table, given_rows};
+use lus_diagrams::{Column, Part, Table, given_rows};
 use lus_program::Program;
 use lus_requests::{Reply, Request};
 use lus_traces::Signal;
@@ -39,7 +41,7 @@ pub enum Failure {
     Lost(u64),
 }
 
-/// What is drawn of a journal, from its first line up to the last so far.
+/// What is drawn of a part of a journal, from its first line up to the last so far.
 #[derive(Drop)]
 pub struct Sketch {
     pub first: u64,
@@ -104,15 +106,17 @@ impl Sketch {
         names: &Names,
         node: u32,
         selection: Selection<'_>,
+        part: Part,
         first: u64,
     ) -> Result<Sketch, Memory>
         requires resolved { Resolved (program_seen program.now) }
         requires node { node < length (program_seen program.now).nodes }
         requires needs { Each NeedsVariables (program_seen program.now).nodes }
         requires narrow { Each IsNarrow (program_seen program.now).nodes }
-        ensures { IfOk result (λ s. HasSketched (selection_seen selection.entry) (program_seen program.now) node [] s) }
+        ensures sketched { IfOk result (λ s. HasSketched (selection_seen selection.entry) (program_seen program.now) node [] [] s) }
+        ensures part { IfOk result (λ s. s.table.part ≡ part) }
     {
-        let table = Table::new(alloc, first);
+        let table = Table::new(part, first);
         match choose(alloc, program, names, node, selection)? {
             Ok(Choice { signals, picks }) => Ok(Sketch {
                 first,
@@ -131,35 +135,38 @@ impl Sketch {
         }
     }
 
-    /// Goes on behind an entry, unless it is known why the journal isn't drawn.
+    /// Goes on behind an entry, unless it is known why the journal isn't drawn, and gives its columns.
     pub fn see(
         &mut self,
         alloc: Global,
         program: &Program,
         request: &Request,
         reply: &Reply,
-    ) -> Result<(), Memory>
+    ) -> Result<Vec<Column>, Memory>
         requires causal { IsCausal (program_seen program.now) }
         requires clocks { ProgramOnClocks (program_seen program.now) }
-        ensures { let p = program_seen program.now in
-            OnOk result ((s : PlainSelection) (f : ℕ) (h : List Entry) → HasSketched s p f h self.old
-            → HasSketched s p f (h ++ entry_of request.now reply.now ∷ []) self.new) }
+        ensures sketched { let p = program_seen program.now in
+            IfOk result (λ new. (s : PlainSelection) (f : ℕ) (h : List Entry) (columns : List PlainColumn) → HasSketched s p f h columns self.old
+            → HasSketched s p f (h ++ entry_of request.now reply.now ∷ []) (columns ++ map column_seen new.items) self.new) }
+        ensures same { IsSameSketch self.old self.new }
     {
         if self.failure.is_some() {
-            return Ok(());
+            return Ok(Vec::new(alloc));
         }
         match cells(alloc, program, &mut self.view, request, reply)? {
             Some(rows) => self.table.note(alloc, request, reply, rows),
             None => {
                 self.failure = Some(Failure::Lost(self.table.line.saturating_add(1)));
-                Ok(())
+                Ok(Vec::new(alloc))
             }
         }
     }
 
     /// Goes on behind a line that is no entry.
     pub fn pass(&mut self)
-        ensures { (s : PlainSelection) (p : PlainProgram) (f : ℕ) (h : List Entry) → HasSketched s p f h self.old → HasSketched s p f h self.new }
+        ensures sketched { (s : PlainSelection) (p : PlainProgram) (f : ℕ) (h : List Entry) (columns : List PlainColumn)
+            → HasSketched s p f h columns self.old → HasSketched s p f h columns self.new }
+        ensures same { IsSameSketch self.old self.new }
     {
         self.table.pass();
     }

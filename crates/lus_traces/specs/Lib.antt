@@ -2,4 +2,3 @@ pub mod Traces
 pub mod Tables
 pub mod Markup
 pub mod Pages
-pub mod Parts

@@ -70,13 +70,16 @@ unfoldable pub head_text : List Text → Text
 head_text signals = codes "instance name,instant number,event name" ++ flat_map following signals ++ codes "\n"
 
 -- a line of names, and one for each column of the journal's table
-unfoldable pub table_text : Names → Trace → Text
+abbrev pub table_text : Names → Trace → Text
 table_text names t = head_text t.names ++ flat_map (column_text names t) t.columns
 
-abbrev pub next_table : Names → Trace → Text
-next_table names t = codes "\n" ++ table_text names t
+abbrev pub next_table : Text → Text
+next_table t = codes "\n" ++ t
 
 -- tables with an empty line between two
+abbrev pub joined : List Text → Text
+joined [] = []
+joined (t ∷ ts) = t ++ flat_map next_table ts
+
 abbrev pub csv_text : Names → List Trace → Text
-csv_text names [] = []
-csv_text names (t ∷ ts) = table_text names t ++ flat_map (next_table names) ts
+csv_text names ts = joined (map (table_text names) ts)

@@ -1,11 +1,10 @@
 //! What stands above and across the lanes of a picture of waves: numbers of instants, events, and refused calls.
 
 use crate::frames::Frame;
-use crate::lines::{Line, text_at};
 use crate::markup::push_escaped;
 use crate::time::Time;
+use crate::trace::Refusal;
 use crate::words::{push_word, width};
-use lus_diagrams::Refusal;
 use lus_printable::printable;
 use std::alloc::{AllocError, Global};
 
@@ -86,7 +85,6 @@ pub(crate) fn push_refusals(
     alloc: Global,
     out: &mut String,
     time: Time,
-    lines: &[Line<'_>],
     refusals: &[Refusal],
     top: usize,
 ) -> Result<(), AllocError> {
@@ -106,8 +104,7 @@ pub(crate) fn push_refusals(
             )?;
             last = Some(refusal.behind);
         }
-        let line = printable(alloc, text_at(lines, refusal.line).as_bytes())?;
-        push_escaped(out, &line)?;
+        push_escaped(out, &printable(alloc, &refusal.line)?)?;
     }
     if last.is_some() {
         out.push_str("</title></path>\n")?;

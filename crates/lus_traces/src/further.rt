@@ -4,10 +4,9 @@ ghost use Rattle.std.specs.Prelude.{◌≡◌, map};
 ghost use Rattle.lus_traces.specs.Pages.{text_of};
 
 use crate::lines::Line;
-use crate::parts::is_instant;
 use crate::trace::{Signal, Trace, is_local};
 use crate::values::entry_text;
-use lus_diagrams::Column;
+use lus_diagrams::{Column, is_instant};
 use lus_values::{Memory, Names};
 use std::alloc::{AllocError, Global};
 use std::slice;
@@ -95,7 +94,7 @@ pub fn push_further(
         add(lines, trace.heading.line, head)?;
     }
     let has_locals = trace.signals.iter().any(is_local);
-    for column in &trace.table.columns {
+    for column in &trace.columns {
         if has_locals && is_instant(column.head) {
             let values = local_values(alloc, names, &trace.signals, column)?;
             add(lines, column.line, values)?;

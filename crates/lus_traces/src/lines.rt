@@ -28,9 +28,3 @@ pub fn lines_of<'a>(alloc: Global, text: &'a str) -> Result<Vec<Line<'a>>, Alloc
     }
     Ok(lines)
 }
-
-/// The text of a line, counted from 1.
-pub(crate) fn text_at<'a>(lines: &[Line<'a>], number: u64) -> &'a str {
-    let line = lines.get(number.saturating_sub(1) as usize);
-    line.map_or("", |line| line.text)
-}

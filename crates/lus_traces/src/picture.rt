@@ -3,7 +3,6 @@
 use crate::axis::{events_end, push_axis, push_events, push_refusals};
 use crate::frames::{Frame, frames_of};
 use crate::lanes::{LANE, push_lanes};
-use crate::lines::Line;
 use crate::time::Time;
 use crate::titles::push_early;
 use crate::trace::{Trace, is_local};
@@ -79,7 +78,7 @@ fn waves_of(alloc: Global, trace: &Trace, from: u64, left: usize) -> Result<Draw
     let instance = printable(alloc, heading.instance.as_bytes())?;
     let mut title = format!(in alloc; "{instance}: {}", heading.node)?;
     push_early(&mut title, heading)?;
-    let frames = frames_of(alloc, &trace.table.columns)?;
+    let frames = frames_of(alloc, &trace.columns)?;
     // without the beginning and the end
     let time = Time::of(frames.len().saturating_sub(2), from, left);
     let mut high = HEAD + FOOT;
@@ -105,7 +104,6 @@ fn push_instance(
     alloc: Global,
     out: &mut String,
     names: &Names,
-    lines: &[Line<'_>],
     waves: &Drawn<'_>,
     top: usize,
 ) -> Result<(), Memory> {
@@ -117,7 +115,7 @@ fn push_instance(
     let signals = &waves.trace.signals;
     push_lanes(alloc, out, names, signals, frames, time, lanes)?;
     push_events(out, time, frames, top, bottom)?;
-    push_refusals(alloc, out, time, lines, &waves.trace.table.refusals, top)?;
+    push_refusals(alloc, out, time, &waves.trace.refusals, top)?;
     Ok(())
 }
 
@@ -144,14 +142,8 @@ fn push_head(out: &mut String, all: &[Drawn<'_>]) -> Result<(), AllocError> {
 }
 
 /// A picture of the waves of instances, one below the other, as wide as their instants, of which the first has this place in its
-/// journal. The lines are those of the journals' file.
-pub fn waves(
-    alloc: Global,
-    names: &Names,
-    lines: &[Line<'_>],
-    from: u64,
-    traces: &[Trace],
-) -> Result<String, Memory> {
+/// journal.
+pub fn waves(alloc: Global, names: &Names, from: u64, traces: &[Trace]) -> Result<String, Memory> {
     let mut out = String::new(alloc);
     let left = left_of(traces);
     let mut all = Vec::new(alloc);
@@ -161,7 +153,7 @@ pub fn waves(
     push_head(&mut out, &all)?;
     let mut top = 0usize;
     for waves in &all {
-        push_instance(alloc, &mut out, names, lines, waves, top)?;
+        push_instance(alloc, &mut out, names, waves, top)?;
         top = top.saturating_add(waves.high);
     }
     out.push_str("</svg>\n")?;

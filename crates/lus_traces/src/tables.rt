@@ -3,12 +3,13 @@
 ghost use Rattle.std.specs.Prelude.{◌≡◌, ◌++◌, [], IfOk, OnOk, flat_map, map, string_bytes};
 ghost use Rattle.lus_values.specs.View.{entry_of};
 ghost use Rattle.lus_diagrams.specs.ColumnView.{column_seen};
-ghost use Rattle.lus_traces.specs.Tables.{cell_text, csv_text, following, head_text, named_text, needs_quotes, next_table, others_text, quoted, shown, table_text};
-ghost use Rattle.lus_traces.specs.Traces.{name_of, trace_seen};
+ghost use Rattle.lus_traces.specs.Tables.{cell_text, following, head_text, joined, named_text, needs_quotes, others_text, quoted, shown};
+ghost use Rattle.lus_traces.specs.Traces.{name_of};
+ghost use Rattle.lus_printable.specs.Printable.{printable};
 
 use crate::cutting::parts_between;
 use crate::titles::title_of;
-use crate::trace::{Signal, Trace};
+use crate::trace::Signal;
 use lus_diagrams::{Column, Head};
 use lus_printable::printable;
 use lus_values::{Memory, Names, Value, push_value};
@@ -110,7 +111,7 @@ fn push_others(
 
 /// Appends the line of names of a table.
 #[tactic(auto, unfolding(crate::specs::Tables::head_text))]
-fn push_head(alloc: Global, out: &mut String, signals: &[Signal]) -> Result<(), AllocError>
+pub fn push_head(alloc: Global, out: &mut String, signals: &[Signal]) -> Result<(), AllocError>
     ensures { OnOk result (string_bytes out.new ≡ string_bytes out.old ++ head_text (map name_of signals.now)) }
 {
     out.push_str("instance name,instant number,event name")?;
@@ -137,30 +138,36 @@ fn push_column(
     Ok(())
 }
 
-/// Appends the table of an instance: a line of names, and a line for each column.
-#[tactic(auto, unfolding(crate::specs::Tables::table_text))]
-fn push_table(alloc: Global, out: &mut String, names: &Names, trace: &Trace) -> Result<(), Memory>
-    ensures { OnOk result (string_bytes out.new ≡ string_bytes out.old ++ table_text names.now (trace_seen trace.now)) }
+/// Appends the lines of columns to a table of an instance of this name.
+pub fn push_columns(
+    alloc: Global,
+    out: &mut String,
+    names: &Names,
+    instance: &str,
+    signals: &[Signal],
+    columns: &[Column],
+) -> Result<(), Memory>
+    ensures { OnOk result (string_bytes out.new
+        ≡ string_bytes out.old ++ flat_map (named_text names.now (printable instance.now) (map name_of signals.now)) (map column_seen columns.now)) }
 {
-    push_head(alloc, out, &trace.signals)?;
-    let instance = printable(alloc, trace.heading.instance.as_bytes())?;
-    for column in &trace.table.columns {
-        push_column(alloc, out, names, &instance, &trace.signals, column)?;
+    let printed = printable(alloc, instance.as_bytes())?;
+    for column in columns {
+        push_column(alloc, out, names, &printed, signals, column)?;
     }
     Ok(())
 }
 
-/// The tables of instances, with an empty line between two.
-pub fn csv(alloc: Global, names: &Names, traces: &[Trace]) -> Result<String, Memory>
-    ensures { IfOk result (λ s. string_bytes s ≡ csv_text names.now (map trace_seen traces.now)) }
+/// Tables, with an empty line between two.
+pub fn csv(alloc: Global, tables: Vec<String>) -> Result<String, AllocError>
+    ensures { IfOk result (λ s. string_bytes s ≡ joined (map string_bytes tables.items)) }
 {
-    let mut out = String::new(alloc);
-    if let [first, others @ ..] = traces {
-        push_table(alloc, &mut out, names, first)?;
-        for trace in others {
-            out.push_str("\n")?;
-            push_table(alloc, &mut out, names, trace)?;
-        }
+    let mut others = tables.into_iter();
+    let Some(mut out) = others.next() else {
+        return Ok(String::new(alloc));
+    };
+    for table in others {
+        out.push_str("\n")?;
+        out.push_str(&table)?;
     }
     Ok(out)
 }

@@ -1,11 +1,6 @@
 //! A journal's table with the names of its rows.
 
-ghost use Rattle.std.specs.Prelude.{◌≡◌, IfOk};
-ghost use Rattle.lus_traces.specs.Traces.{trace_of, trace_seen};
-
-use crate::parts::{Part, part_of};
-use lus_diagrams::Table;
-use std::alloc::{AllocError, Global};
+use lus_diagrams::Column;
 
 /// What a signal's values are: truth values, numbers of 64 bits, or texts.
 #[derive(Clone, Copy)]
@@ -67,30 +62,20 @@ pub struct Heading {
     pub ends_early: Option<u64>,
 }
 
-/// What is drawn of a journal: the signals that its node's inputs and outputs are, those that its rows are, and its table.
+/// A refused call: how many accepted instants stand before it, and its line.
+#[derive(Drop)]
+pub struct Refusal {
+    pub behind: u64,
+    pub line: Vec<u8>,
+}
+
+/// What is drawn of a journal: the signals that its node's inputs and outputs are, those that its rows are, the columns of its table, and
+/// the calls that were refused.
 #[derive(Drop)]
 pub struct Trace {
     pub heading: Heading,
     pub formals: Vec<Signal>,
     pub signals: Vec<Signal>,
-    pub table: Table,
-}
-
-impl Trace {
-    /// A part of the trace: of refused calls those before its first instant, and up to the one behind its last.
-    pub fn part(self, alloc: Global, part: Part) -> Result<Trace, AllocError>
-        ensures { IfOk result (λ t. trace_seen t ≡ trace_of part self) }
-    {
-        let mut table = self.table;
-        table.columns = part_of(alloc, part, table.columns)?;
-        table.refusals.retain(|refusal| {
-            part.from <= refusal.behind.saturating_add(1) && refusal.behind <= part.to
-        });
-        Ok(Trace {
-            heading: self.heading,
-            formals: self.formals,
-            signals: self.signals,
-            table,
-        })
-    }
+    pub columns: Vec<Column>,
+    pub refusals: Vec<Refusal>,
 }

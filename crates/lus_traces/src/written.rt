@@ -1,11 +1,9 @@
 //! Traces as lines of text.
 
-use crate::lines::{Line, text_at};
-use crate::parts::is_instant;
 use crate::titles::{push_early, title_of};
 use crate::trace::{Signal, Trace};
 use crate::values::entry_text;
-use lus_diagrams::Column;
+use lus_diagrams::{Column, is_instant};
 use lus_printable::printable;
 use lus_values::{Memory, Names};
 use std::alloc::{AllocError, Global};
@@ -97,46 +95,34 @@ fn push_bands(
 
 /// Appends a trace: its instance and node, its table in lines of at most 100 characters, where its columns have room in them, and the
 /// lines of its refused calls.
-fn push_trace(
-    alloc: Global,
-    out: &mut String,
-    names: &Names,
-    lines: &[Line<'_>],
-    trace: &Trace,
-) -> Result<(), Memory> {
+fn push_trace(alloc: Global, out: &mut String, names: &Names, trace: &Trace) -> Result<(), Memory> {
     let heading = &trace.heading;
     let instance = printable(alloc, heading.instance.as_bytes())?;
     write!(out, "instance {instance} {}", heading.node)?;
     push_early(out, heading)?;
     out.push_str("\n")?;
     let mut columns = Vec::new(alloc);
-    for column in &trace.table.columns {
+    for column in &trace.columns {
         columns.push(written_column(alloc, names, &trace.signals, column)?)?;
     }
     push_bands(alloc, out, &trace.signals, &columns)?;
-    if !trace.table.refusals.is_empty() {
+    if !trace.refusals.is_empty() {
         out.push_str("\n")?;
     }
-    for refusal in &trace.table.refusals {
-        let line = printable(alloc, text_at(lines, refusal.line).as_bytes())?;
-        write!(out, "{line}\n")?;
+    for refusal in &trace.refusals {
+        write!(out, "{}\n", printable(alloc, &refusal.line)?)?;
     }
     Ok(())
 }
 
-/// Traces as text, with an empty line between two. The lines are those of the journals' file.
-pub fn text(
-    alloc: Global,
-    names: &Names,
-    lines: &[Line<'_>],
-    traces: &[Trace],
-) -> Result<String, Memory> {
+/// Traces as text, with an empty line between two.
+pub fn text(alloc: Global, names: &Names, traces: &[Trace]) -> Result<String, Memory> {
     let mut out = String::new(alloc);
     for (place, trace) in traces.iter().enumerate() {
         if place > 0 {
             out.push_str("\n")?;
         }
-        push_trace(alloc, &mut out, names, lines, trace)?;
+        push_trace(alloc, &mut out, names, trace)?;
     }
     Ok(out)
 }

@@ -1,8 +1,9 @@
--- The tables so far stand behind the first one.
-use Rattle.std.proofs.Common.{◌≡◌, ◌++◌, flat_map, map, string_bytes, take}
-use Rattle.lus_traces.specs.Tables.{next_table}
-use Rattle.lus_traces.specs.Traces.{trace_seen}
+-- The text so far comes before those of the tables that are left.
+use Rattle.std.proofs.Common.{◌≡◌, ◌++◌, flat_map, map, string_bytes}
+use Rattle.std.specs.Vec.Iter.{into_iter_items}
+use Rattle.lus_traces.specs.Tables.{joined, next_table}
 use Rattle.lus_traces.proofs.tables.csv.Given as goal
 
-abbrev pub invariant-loop-trace : goal.invariant-loop-trace
-invariant-loop-trace l = string_bytes l.out ≡ string_bytes l.initial.out ++ flat_map (next_table l.names) (map trace_seen (take l.trace-index l.others))
+abbrev pub invariant-loop-table : goal.invariant-loop-table
+invariant-loop-table l =
+    string_bytes l.out ++ flat_map next_table (map string_bytes (into_iter_items l.table-iterator)) ≡ joined (map string_bytes l.fn.tables.items)

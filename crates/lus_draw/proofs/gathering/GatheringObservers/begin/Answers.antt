@@ -7,11 +7,11 @@ use Rattle.lus_order.specs.Orders.{IsNarrow, NeedsVariables}
 use Rattle.lus_draw.proofs.Accepted.{accepted_resolved, accepted_needs, accepted_narrow}
 use Rattle.lus_draw.proofs.gathering.GatheringObservers.begin.Goals as goal
 
-pub new-requires-clause-resolved : goal.new-requires-clause-resolved
-new-requires-clause-resolved g c = subst Resolved (sym c.source.ensures.same) (accepted_resolved _ c.source.ensures.accepted)
+pub new-sketch-requires-clause-resolved : goal.new-sketch-requires-clause-resolved
+new-sketch-requires-clause-resolved g c = subst Resolved (sym c.source.ensures.same) (accepted_resolved _ c.source.ensures.accepted)
 
-pub new-requires-clause-needs : goal.new-requires-clause-needs
-new-requires-clause-needs g c = subst (λ (p : Program). Each NeedsVariables p.nodes) (sym c.source.ensures.same) (accepted_needs _ c.source.ensures.accepted)
+pub new-sketch-requires-clause-needs : goal.new-sketch-requires-clause-needs
+new-sketch-requires-clause-needs g c = subst (λ (p : Program). Each NeedsVariables p.nodes) (sym c.source.ensures.same) (accepted_needs _ c.source.ensures.accepted)
 
-pub new-requires-clause-narrow : goal.new-requires-clause-narrow
-new-requires-clause-narrow g c = subst (λ (p : Program). Each IsNarrow p.nodes) (sym c.source.ensures.same) (accepted_narrow _ c.source.ensures.accepted)
+pub new-sketch-requires-clause-narrow : goal.new-sketch-requires-clause-narrow
+new-sketch-requires-clause-narrow g c = subst (λ (p : Program). Each IsNarrow p.nodes) (sym c.source.ensures.same) (accepted_narrow _ c.source.ensures.accepted)

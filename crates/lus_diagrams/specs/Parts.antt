@@ -3,7 +3,7 @@ use Rattle.std.specs.Prelude.{◌+◌, ◌&&◌, ℕ, Bool, true, false, List, [
 use Rattle.lus_diagrams.specs.Columns.{Column}
 use Rattle.lus_diagrams.specs.declared.lineage.Head.{Head}
 use Rattle.lus_diagrams.specs.declared.lineage.Head.TheVariants as heads
-use Rattle.lus_traces.specs.declared.parts.Part.{Part}
+use Rattle.lus_diagrams.specs.declared.parts.Part.{Part}
 
 abbrev pub is_instant : Head → Bool
 is_instant (heads.Instant n) = true
@@ -29,3 +29,8 @@ part_behind p n (c ∷ cs) = kept (is_within p n c.head) c (part_behind p (up_to
 
 abbrev pub part_of : Part → List Column → List Column
 part_of p cs = part_behind p 0 cs
+
+-- how many instants there are up to the end of columns behind so many
+abbrev pub all_up_to : ℕ → List Column → ℕ
+all_up_to n [] = n
+all_up_to n (c ∷ cs) = all_up_to (up_to n c.head) cs
