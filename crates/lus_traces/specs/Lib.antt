@@ -1,4 +1,5 @@
 pub mod Traces
+pub mod Growing
 pub mod Tables
 pub mod Markup
 pub mod Pages

@@ -1,10 +1,11 @@
 //! What stands above and across the lanes of a picture of waves: numbers of instants, events, and refused calls.
 
 use crate::frames::Frame;
+use crate::growing::Text;
 use crate::markup::push_escaped;
 use crate::time::Time;
 use crate::trace::Refusal;
-use crate::words::{push_word, width};
+use crate::words::{begin_path, begin_word, push_path, push_word, width};
 use lus_printable::printable;
 use std::alloc::{AllocError, Global};
 
@@ -16,98 +17,90 @@ const AXIS: usize = 580;
 const REFUSALS: usize = 760;
 
 /// Appends the axis: the numbers of instants that have room, each with a line through the lanes where its instant begins.
-pub(crate) fn push_axis(
-    out: &mut String,
-    time: Time,
-    top: usize,
-    bottom: usize,
-) -> Result<(), AllocError> {
-    let axis = top.saturating_add(AXIS);
-    let (left, right) = (time.end(0), time.right());
-    write!(out, "<path class=\"axis\" d=\"M{left} {axis}H{right}\"/>\n")?;
+pub(crate) fn push_axis(out: &mut Text, time: Time, top: usize, bottom: usize) {
+    let (axis, y) = (top.saturating_add(AXIS), top.saturating_add(NUMBERS));
+    push_path(
+        out,
+        "axis",
+        &[("M", time.end(0)), (" ", axis), ("H", time.right())],
+    );
     let step = time.step().max(1);
     for place in 0..time.instants {
         let number = time.first.saturating_add(place as u64);
         if number % step == 0 {
-            let (x, y) = (time.end(place), top.saturating_add(NUMBERS));
+            let x = time.end(place);
             let middle = (x / 2).saturating_add(time.end(place + 1) / 2);
-            write!(out, "<path class=\"grid\" d=\"M{x} {axis}V{bottom}\"/>\n")?;
-            write!(
-                out,
-                "<text class=\"number\" x=\"{middle}\" y=\"{y}\">{number}</text>\n"
-            )?;
+            push_path(out, "grid", &[("M", x), (" ", axis), ("V", bottom)]);
+            begin_word(out, "number", middle, y);
+            out.write(number);
+            out.put("</text>\n");
         }
     }
-    Ok(())
 }
 
 /// How far the name of the last events reaches.
-pub(crate) fn events_end(time: Time, frames: &[Frame<'_>]) -> usize {
+pub(crate) fn events_end(
+    alloc: Global,
+    time: Time,
+    frames: &[Frame<'_>],
+) -> Result<usize, AllocError> {
     let mut end = 0usize;
     for (place, frame) in frames.iter().enumerate() {
         if !frame.events.is_empty() {
-            end = time.start(place).saturating_add(width(&frame.events));
+            let wide = width(&frame.names(alloc)?);
+            end = time.start(place).saturating_add(wide);
         }
     }
-    end
+    Ok(end)
 }
 
 /// Appends a mark through all lanes where events stand before an instant, with their names where they have room.
 pub(crate) fn push_events(
-    out: &mut String,
+    out: &mut Text,
     time: Time,
     frames: &[Frame<'_>],
     top: usize,
     bottom: usize,
-) -> Result<(), AllocError> {
+) {
     let axis = top.saturating_add(AXIS);
     let mut free = 0usize;
     for (place, frame) in frames.iter().enumerate() {
-        let events = frame.events.as_str();
-        if !events.is_empty() {
+        if !frame.events.is_empty() {
             let x = time.start(place);
-            write!(
-                out,
-                "<path class=\"event\" d=\"M{x} {axis}V{bottom}\"><title>{events}</title></path>\n"
-            )?;
+            let names = out.made(frame.names(out.alloc));
+            begin_path(out, "event", &[("M", x), (" ", axis), ("V", bottom)]);
+            out.put("\"><title>");
+            out.put(&names);
+            out.put("</title></path>\n");
             if free <= x {
                 let y = axis.saturating_add(120);
-                push_word(out, "mark", x.saturating_add(20), y, events)?;
-                free = x.saturating_add(width(events));
+                push_word(out, "mark", x.saturating_add(20), y, &names);
+                free = x.saturating_add(width(&names));
             }
         }
     }
-    Ok(())
 }
 
 /// Appends a red mark above the lanes where calls were refused, with their lines of the journal as its title.
-pub(crate) fn push_refusals(
-    alloc: Global,
-    out: &mut String,
-    time: Time,
-    refusals: &[Refusal],
-    top: usize,
-) -> Result<(), AllocError> {
+pub(crate) fn push_refusals(out: &mut Text, time: Time, refusals: &[Refusal], top: usize) {
     let y = top.saturating_add(REFUSALS);
     let mut last: Option<u64> = None;
     for refusal in refusals {
         if last == Some(refusal.behind) {
-            out.push_str("\n")?;
+            out.put("\n");
         } else {
             if last.is_some() {
-                out.push_str("</title></path>\n")?;
+                out.put("</title></path>\n");
             }
             let x = time.behind(refusal.behind);
-            write!(
-                out,
-                "<path class=\"refused\" d=\"M{x} {y}m-40 0h80l-40 110z\"><title>"
-            )?;
+            begin_path(out, "refused", &[("M", x), (" ", y)]);
+            out.put("m-40 0h80l-40 110z\"><title>");
             last = Some(refusal.behind);
         }
-        push_escaped(out, &printable(alloc, &refusal.line)?)?;
+        let line = out.made(printable(out.alloc, &refusal.line));
+        push_escaped(out, &line);
     }
     if last.is_some() {
-        out.push_str("</title></path>\n")?;
+        out.put("</title></path>\n");
     }
-    Ok(())
 }

@@ -1,20 +1,29 @@
 //! What stands in a journal at each time.
 
-use crate::titles::title_of;
-use lus_diagrams::{Column, Head};
+use crate::growing::Text;
+use crate::titles::push_event;
+use lus_diagrams::{Column, is_instant};
 use lus_values::Value;
 use std::alloc::{AllocError, Global};
 
-/// What stands at a time: the names of the events before its instant, and the instant's number and entries. At the beginning and at
-/// the end there is no instant.
-#[derive(Drop)]
+/// What stands at a time: the columns of the events before its instant, and the instant's entries. At the beginning and at the end there is
+/// no instant.
+#[derive(Clone, Copy)]
 pub(crate) struct Frame<'a> {
-    pub events: String,
-    pub number: Option<u64>,
+    pub events: &'a [Column],
     pub cells: &'a [Option<Value>],
 }
 
 impl<'a> Frame<'a> {
+    /// The names of its events.
+    pub(crate) fn names(self, alloc: Global) -> Result<String, AllocError> {
+        let mut names = Text::new(alloc);
+        for event in self.events {
+            push_event(&mut names, event.head);
+        }
+        names.done()
+    }
+
     /// The part of a row's value that these places of fields lead to, where the value is present. Of a structure that is nil each part
     /// is.
     pub(crate) fn part(&self, row: usize, way: &[u32]) -> Option<&'a Value> {
@@ -34,29 +43,21 @@ impl<'a> Frame<'a> {
 pub(crate) fn frames_of(alloc: Global, columns: &[Column]) -> Result<Vec<Frame<'_>>, AllocError> {
     let mut frames = Vec::new(alloc);
     frames.push(Frame {
-        events: String::new(alloc),
-        number: None,
+        events: &[],
         cells: &[],
     })?;
-    let mut events = String::new(alloc);
-    for column in columns {
-        if let Head::Instant(number) = column.head {
+    let mut from = 0usize;
+    for (place, column) in columns.iter().enumerate() {
+        if is_instant(column.head) {
             frames.push(Frame {
-                events,
-                number: Some(number),
+                events: &columns[from..place],
                 cells: column.cells.items(),
             })?;
-            events = String::new(alloc);
-        } else {
-            if !events.is_empty() {
-                events.push_str(",")?;
-            }
-            events.push_str(&title_of(alloc, column.head)?)?;
+            from = place + 1;
         }
     }
     frames.push(Frame {
-        events,
-        number: None,
+        events: &columns[from..],
         cells: &[],
     })?;
     Ok(frames)

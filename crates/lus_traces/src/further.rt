@@ -3,9 +3,10 @@
 ghost use Rattle.std.specs.Prelude.{◌≡◌, map};
 ghost use Rattle.lus_traces.specs.Pages.{text_of};
 
+use crate::growing::Text;
 use crate::lines::Line;
 use crate::trace::{Signal, Trace, is_local};
-use crate::values::entry_text;
+use crate::values::entry_at;
 use lus_diagrams::{Column, is_instant};
 use lus_values::{Memory, Names};
 use std::alloc::{AllocError, Global};
@@ -24,13 +25,15 @@ fn add(lines: &mut Vec<Line<'_>>, number: u64, further: String) -> Result<(), Al
 
 /// A line of a word, and behind it the names of signals' lanes.
 fn named(alloc: Global, word: &str, signals: &[Signal]) -> Result<String, AllocError> {
-    let mut line = String::from_str(alloc, word)?;
+    let mut line = Text::new(alloc);
+    line.put(word);
     for signal in signals {
         for lane in &signal.lanes {
-            write!(line, " {}", lane.name)?;
+            line.put(" ");
+            line.put(&lane.name);
         }
     }
-    Ok(line)
+    line.done()
 }
 
 /// Whether the signals of a trace begin with the formals.
@@ -65,19 +68,20 @@ fn local_values(
     names: &Names,
     signals: &[Signal],
     column: &Column,
-) -> Result<String, Memory> {
-    let mut line = String::from_str(alloc, "+ (")?;
-    let start = line.len();
-    for (signal, entry) in signals.iter().zip(column.cells.items()) {
+) -> Result<String, AllocError> {
+    let mut line = Text::new(alloc);
+    line.put("+ (");
+    let start = line.so_far().len();
+    for (place, signal) in signals.iter().enumerate() {
         if is_local(signal) {
-            if line.len() > start {
-                line.push_str(", ")?;
+            if line.so_far().len() > start {
+                line.put(", ");
             }
-            line.push_str(&entry_text(alloc, names, entry.as_ref())?)?;
+            line.put_entry(names, entry_at(&column.cells, place));
         }
     }
-    line.push_str(")")?;
-    Ok(line)
+    line.put(")");
+    line.done()
 }
 
 /// Adds what a page has of a journal behind its lines: behind the first line what the heads say, and behind the line of an entry the

@@ -8,6 +8,7 @@ mod document;
 mod dump;
 mod frames;
 mod further;
+mod growing;
 mod kinds;
 mod lanes;
 mod lines;

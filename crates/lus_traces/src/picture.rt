@@ -2,12 +2,12 @@
 
 use crate::axis::{events_end, push_axis, push_events, push_refusals};
 use crate::frames::{Frame, frames_of};
+use crate::growing::Text;
 use crate::lanes::{LANE, push_lanes};
 use crate::time::Time;
 use crate::titles::push_early;
-use crate::trace::{Trace, is_local};
+use crate::trace::{Heading, Trace, is_local};
 use crate::words::push_word;
-use lus_printable::printable;
 use lus_values::{Memory, Names};
 use std::alloc::{AllocError, Global};
 
@@ -62,100 +62,90 @@ fn left_of(traces: &[Trace]) -> usize {
     most.saturating_mul(LETTER).saturating_add(BESIDE)
 }
 
-/// An instance's waves: what is drawn, how high they are, and how wide with their title and the names of events.
-#[derive(Drop)]
-struct Drawn<'a> {
-    trace: &'a Trace,
-    title: String,
-    frames: Vec<Frame<'a>>,
-    time: Time,
-    high: usize,
-    wide: usize,
+/// What stands above an instance's waves.
+fn title_of(alloc: Global, heading: &Heading) -> Result<String, AllocError> {
+    let mut title = Text::new(alloc);
+    title.put_printable(heading.instance.as_bytes());
+    title.put(": ");
+    title.put(&heading.node);
+    push_early(&mut title, heading);
+    title.done()
 }
 
-fn waves_of(alloc: Global, trace: &Trace, from: u64, left: usize) -> Result<Drawn<'_>, AllocError> {
-    let heading = &trace.heading;
-    let instance = printable(alloc, heading.instance.as_bytes())?;
-    let mut title = format!(in alloc; "{instance}: {}", heading.node)?;
-    push_early(&mut title, heading)?;
+/// Where the instants of frames stand, all but the beginning and the end.
+fn time_of(frames: &[Frame<'_>], from: u64, left: usize) -> Time {
+    Time::of(frames.len().saturating_sub(2), from, left)
+}
+
+/// How wide an instance's waves are, with their title and the names of events.
+fn wide_of(alloc: Global, trace: &Trace, from: u64, left: usize) -> Result<usize, AllocError> {
+    let title = title_of(alloc, &trace.heading)?.len();
     let frames = frames_of(alloc, &trace.columns)?;
-    // without the beginning and the end
-    let time = Time::of(frames.len().saturating_sub(2), from, left);
+    let time = time_of(&frames, from, left);
+    let events = events_end(alloc, time, &frames)?;
+    let wide = time.right().max(title.saturating_mul(TITLE));
+    Ok(wide.saturating_add(MARGIN).max(events))
+}
+
+/// How high they are.
+fn high_of(trace: &Trace) -> usize {
     let mut high = HEAD + FOOT;
     for signal in &trace.signals {
         high = high.saturating_add(signal.lanes.len().saturating_mul(LANE));
     }
-    let wide = time
-        .right()
-        .max(title.len().saturating_mul(TITLE))
-        .saturating_add(MARGIN)
-        .max(events_end(time, &frames));
-    Ok(Drawn {
-        trace,
-        title,
-        frames,
-        time,
-        high,
-        wide,
-    })
+    high
 }
 
-fn push_instance(
-    alloc: Global,
-    out: &mut String,
-    names: &Names,
-    waves: &Drawn<'_>,
-    top: usize,
-) -> Result<(), Memory> {
-    let (time, frames) = (waves.time, waves.frames.as_slice());
+fn push_instance(out: &mut Text, names: &Names, trace: &Trace, from: u64, left: usize, top: usize) {
+    let title = out.made(title_of(out.alloc, &trace.heading));
+    push_word(out, "title", 60, top.saturating_add(260), &title);
+    let found = out.listed(frames_of(out.alloc, &trace.columns));
+    let frames = found.as_slice();
+    let time = time_of(frames, from, left);
     let lanes = top.saturating_add(HEAD);
-    let bottom = top.saturating_add(waves.high).saturating_sub(FOOT);
-    push_word(out, "title", 60, top.saturating_add(260), &waves.title)?;
-    push_axis(out, time, top, bottom)?;
-    let signals = &waves.trace.signals;
-    push_lanes(alloc, out, names, signals, frames, time, lanes)?;
-    push_events(out, time, frames, top, bottom)?;
-    push_refusals(alloc, out, time, &waves.trace.refusals, top)?;
-    Ok(())
+    let bottom = top.saturating_add(high_of(trace)).saturating_sub(FOOT);
+    push_axis(out, time, top, bottom);
+    push_lanes(out, names, &trace.signals, frames, time, lanes);
+    push_events(out, time, frames, top, bottom);
+    push_refusals(out, time, &trace.refusals, top);
 }
 
 /// Appends the document's first tag, and how each class is drawn.
-fn push_head(out: &mut String, all: &[Drawn<'_>]) -> Result<(), AllocError> {
-    let mut wide = 0usize;
+fn push_head(out: &mut Text, wide: usize, traces: &[Trace]) {
     let mut high = 0usize;
     let mut has_locals = false;
-    for waves in all {
-        wide = wide.max(waves.wide);
-        high = high.saturating_add(waves.high);
-        has_locals |= waves.trace.signals.iter().any(is_local);
+    for trace in traces {
+        high = high.saturating_add(high_of(trace));
+        has_locals |= trace.signals.iter().any(is_local);
     }
     let (width, height) = (wide / 10, high / 10);
-    write!(
-        out,
-        "{OPENING} width=\"{width}\" height=\"{height}\" viewBox=\"0 0 {wide} {high}\">\n"
-    )?;
-    out.push_str(STYLE)?;
+    out.put(OPENING);
+    out.put_number(" width=\"", width);
+    out.put_number("\" height=\"", height);
+    out.put_number("\" viewBox=\"0 0 ", wide);
+    out.put_number(" ", high);
+    out.put("\">\n");
+    out.put(STYLE);
     if has_locals {
-        out.push_str(LOCALS)?;
+        out.put(LOCALS);
     }
-    Ok(())
 }
 
 /// A picture of the waves of instances, one below the other, as wide as their instants, of which the first has this place in its
 /// journal.
 pub fn waves(alloc: Global, names: &Names, from: u64, traces: &[Trace]) -> Result<String, Memory> {
-    let mut out = String::new(alloc);
     let left = left_of(traces);
-    let mut all = Vec::new(alloc);
+    let mut wide = 0usize;
     for trace in traces {
-        all.push(waves_of(alloc, trace, from, left)?)?;
+        wide = wide.max(wide_of(alloc, trace, from, left)?);
     }
-    push_head(&mut out, &all)?;
+    let mut out = Text::new(alloc);
+    push_head(&mut out, wide, traces);
     let mut top = 0usize;
-    for waves in &all {
-        push_instance(alloc, &mut out, names, waves, top)?;
-        top = top.saturating_add(waves.high);
+    for trace in traces {
+        push_instance(&mut out, names, trace, from, left, top);
+        top = top.saturating_add(high_of(trace));
     }
-    out.push_str("</svg>\n")?;
-    Ok(out)
+    out.put("</svg>\n");
+    Ok(out.done()?)
 }

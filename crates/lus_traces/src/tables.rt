@@ -3,17 +3,20 @@
 ghost use Rattle.std.specs.Prelude.{◌≡◌, ◌++◌, [], IfOk, OnOk, flat_map, map, string_bytes};
 ghost use Rattle.lus_values.specs.View.{entry_of};
 ghost use Rattle.lus_diagrams.specs.ColumnView.{column_seen};
+ghost use Rattle.lus_traces.specs.Growing.{Put};
 ghost use Rattle.lus_traces.specs.Tables.{cell_text, following, head_text, joined, named_text, needs_quotes, others_text, quoted, shown};
 ghost use Rattle.lus_traces.specs.Traces.{name_of};
 ghost use Rattle.lus_printable.specs.Printable.{printable};
 
 use crate::cutting::parts_between;
+use crate::growing::Text;
 use crate::titles::title_of;
 use crate::trace::Signal;
 use lus_diagrams::{Column, Head};
 use lus_printable::printable;
 use lus_values::{Memory, Names, Value, push_value};
 use std::alloc::{AllocError, Global};
+use std::mem;
 
 /// Whether a text stands in a cell only between quotes.
 fn needs_quotes(text: &str) -> bool
@@ -23,41 +26,44 @@ fn needs_quotes(text: &str) -> bool
 }
 
 /// Appends a text between quotes, with each quote in it doubled.
-fn push_quoted(alloc: Global, out: &mut String, text: &str) -> Result<(), AllocError>
-    ensures { OnOk result (string_bytes out.new ≡ string_bytes out.old ++ quoted text.now) }
+fn push_quoted(out: &mut Text, text: &str)
+    ensures { Put out.old (quoted text.now) out.new }
 {
-    for part in &parts_between(alloc, text, '"')? {
-        write!(out, "\"{part}\"")?;
+    match parts_between(out.alloc, text, '"') {
+        Ok(parts) => {
+            for part in &parts {
+                write!(out, "\"{part}\"");
+            }
+        }
+        Err(_) => out.fail(),
     }
-    Ok(())
 }
 
-fn push_cell(alloc: Global, out: &mut String, text: &str) -> Result<(), AllocError>
-    ensures { OnOk result (string_bytes out.new ≡ string_bytes out.old ++ cell_text text.now) }
+fn push_cell(out: &mut Text, text: &str)
+    ensures { Put out.old (cell_text text.now) out.new }
 {
     if needs_quotes(text) {
-        push_quoted(alloc, out, text)
+        push_quoted(out, text);
     } else {
-        out.push_str(text)
+        out.put(text);
     }
 }
 
 /// Appends a cell behind others.
-fn push_next(alloc: Global, out: &mut String, text: &str) -> Result<(), AllocError>
-    ensures { OnOk result (string_bytes out.new ≡ string_bytes out.old ++ following text.now) }
+fn push_next(out: &mut Text, text: &str)
+    ensures { Put out.old (following text.now) out.new }
 {
-    out.push_str(",")?;
-    push_cell(alloc, out, text)
+    out.put(",");
+    push_cell(out, text);
 }
 
 /// Appends an empty cell for each signal.
-fn push_empty(alloc: Global, out: &mut String, signals: &[Signal]) -> Result<(), AllocError>
-    ensures { OnOk result (string_bytes out.new ≡ string_bytes out.old ++ flat_map following (map (λ name. []) (map name_of signals.now))) }
+fn push_empty(out: &mut Text, signals: &[Signal])
+    ensures { Put out.old (flat_map following (map (λ name. []) (map name_of signals.now))) out.new }
 {
     for _ in signals {
-        push_next(alloc, out, "")?;
+        push_next(out, "");
     }
-    Ok(())
 }
 
 /// The text of an entry's cell, which is empty where it is absent.
@@ -72,40 +78,34 @@ fn shown(alloc: Global, names: &Names, entry: &Option<Value>) -> Result<String, 
 }
 
 /// Appends the cells of entries.
-fn push_entries(
-    alloc: Global,
-    out: &mut String,
-    names: &Names,
-    entries: &[Option<Value>],
-) -> Result<(), Memory>
-    ensures { OnOk result (string_bytes out.new ≡ string_bytes out.old ++ flat_map following (map (shown names.now) (map entry_of entries.now))) }
+fn push_entries(out: &mut Text, names: &Names, entries: &[Option<Value>])
+    ensures { Put out.old (flat_map following (map (shown names.now) (map entry_of entries.now))) out.new }
 {
     for entry in entries {
-        push_next(alloc, out, &shown(alloc, names, entry)?)?;
+        match shown(out.alloc, names, entry) {
+            Ok(text) => push_next(out, &text),
+            Err(_) => out.fail(),
+        }
     }
-    Ok(())
 }
 
 /// Appends the cells of a column's line, but for the first.
-fn push_others(
-    alloc: Global,
-    out: &mut String,
-    names: &Names,
-    signals: &[Signal],
-    column: &Column,
-) -> Result<(), Memory>
-    ensures { OnOk result (string_bytes out.new ≡ string_bytes out.old ++ others_text names.now (map name_of signals.now) (column_seen column.now)) }
+fn push_others(out: &mut Text, names: &Names, signals: &[Signal], column: &Column)
+    ensures { Put out.old (others_text names.now (map name_of signals.now) (column_seen column.now)) out.new }
 {
-    let title = title_of(alloc, column.head)?;
-    if let Head::Instant(_) = column.head {
-        push_next(alloc, out, &title)?;
-        push_next(alloc, out, "")?;
-        push_entries(alloc, out, names, column.cells.items())
-    } else {
-        push_next(alloc, out, "")?;
-        push_next(alloc, out, &title)?;
-        push_empty(alloc, out, signals)?;
-        Ok(())
+    match title_of(out.alloc, column.head) {
+        Ok(title) => {
+            if let Head::Instant(_) = column.head {
+                push_next(out, &title);
+                push_next(out, "");
+                push_entries(out, names, column.cells.items());
+            } else {
+                push_next(out, "");
+                push_next(out, &title);
+                push_empty(out, signals);
+            }
+        }
+        Err(_) => out.fail(),
     }
 }
 
@@ -114,28 +114,23 @@ fn push_others(
 pub fn push_head(alloc: Global, out: &mut String, signals: &[Signal]) -> Result<(), AllocError>
     ensures { OnOk result (string_bytes out.new ≡ string_bytes out.old ++ head_text (map name_of signals.now)) }
 {
-    out.push_str("instance name,instant number,event name")?;
+    let mut text = Text::of(alloc, mem::replace(out, String::new(alloc)));
+    text.put("instance name,instant number,event name");
     for signal in signals {
-        push_next(alloc, out, &signal.name)?;
+        push_next(&mut text, &signal.name);
     }
-    out.push_str("\n")
+    text.put("\n");
+    *out = text.done()?;
+    Ok(())
 }
 
 /// Appends the line of a column, behind the instance's name.
-fn push_column(
-    alloc: Global,
-    out: &mut String,
-    names: &Names,
-    instance: &str,
-    signals: &[Signal],
-    column: &Column,
-) -> Result<(), Memory>
-    ensures { OnOk result (string_bytes out.new ≡ string_bytes out.old ++ named_text names.now instance.now (map name_of signals.now) (column_seen column.now)) }
+fn push_column(out: &mut Text, names: &Names, instance: &str, signals: &[Signal], column: &Column)
+    ensures { Put out.old (named_text names.now instance.now (map name_of signals.now) (column_seen column.now)) out.new }
 {
-    push_cell(alloc, out, instance)?;
-    push_others(alloc, out, names, signals, column)?;
-    out.push_str("\n")?;
-    Ok(())
+    push_cell(out, instance);
+    push_others(out, names, signals, column);
+    out.put("\n");
 }
 
 /// Appends the lines of columns to a table of an instance of this name.
@@ -151,9 +146,11 @@ pub fn push_columns(
         ≡ string_bytes out.old ++ flat_map (named_text names.now (printable instance.now) (map name_of signals.now)) (map column_seen columns.now)) }
 {
     let printed = printable(alloc, instance.as_bytes())?;
+    let mut text = Text::of(alloc, mem::replace(out, String::new(alloc)));
     for column in columns {
-        push_column(alloc, out, names, &printed, signals, column)?;
+        push_column(&mut text, names, &printed, signals, column);
     }
+    *out = text.done()?;
     Ok(())
 }
 

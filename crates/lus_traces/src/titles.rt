@@ -3,6 +3,7 @@
 ghost use Rattle.std.specs.Prelude.{◌≡◌, IfOk, string_bytes};
 ghost use Rattle.lus_traces.specs.Tables.{title_of};
 
+use crate::growing::Text;
 use crate::trace::Heading;
 use lus_diagrams::Head;
 use std::alloc::{AllocError, Global};
@@ -21,9 +22,19 @@ pub(crate) fn title_of(alloc: Global, head: Head) -> Result<String, AllocError>
 }
 
 /// Appends that a journal ends early, where it does.
-pub(crate) fn push_early(out: &mut String, heading: &Heading) -> Result<(), AllocError> {
-    match heading.ends_early {
-        Some(line) => write!(out, ", ends early at line {line}"),
-        None => Ok(()),
+pub(crate) fn push_early(out: &mut Text, heading: &Heading) {
+    if let Some(line) = heading.ends_early {
+        out.put(", ends early at line ");
+        out.write(line);
     }
+}
+
+/// Appends the name of an event, behind those that stand there.
+pub(crate) fn push_event(out: &mut Text, head: Head) {
+    if !out.so_far().is_empty() {
+        out.put(",");
+    }
+    let title = title_of(out.alloc, head);
+    let title = out.made(title);
+    out.put(&title);
 }

@@ -1,7 +1,6 @@
 //! Values that may be absent.
 
-use lus_values::{Memory, Names, Value, print, same};
-use std::alloc::Global;
+use lus_values::{Row, Value, same};
 
 /// Whether two entries are both absent, or equal.
 pub(crate) fn same_entry(left: Option<&Value>, right: Option<&Value>) -> bool {
@@ -12,14 +11,7 @@ pub(crate) fn same_entry(left: Option<&Value>, right: Option<&Value>) -> bool {
     }
 }
 
-/// The text of an entry: `-` where it is absent.
-pub(crate) fn entry_text(
-    alloc: Global,
-    names: &Names,
-    entry: Option<&Value>,
-) -> Result<String, Memory> {
-    match entry {
-        Some(value) => print(alloc, value, names),
-        None => Ok(String::from_str(alloc, "-")?),
-    }
+/// The entry of a row, if there is one.
+pub(crate) fn entry_at(cells: &Row, place: usize) -> Option<&Value> {
+    cells.items().get(place).and_then(Option::as_ref)
 }
