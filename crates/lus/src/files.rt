@@ -1,5 +1,6 @@
 //! The files that the words of a tool for people name, and which it couldn't open.
 
+use crate::mistaken::arguments_of;
 use lus_devices::{Sink, write_all};
 use lus_many::is_many;
 use std::alloc::{AllocError, Global};
@@ -23,12 +24,14 @@ fn is_unopened<R: Files>(rt: &R, name: &str) -> bool {
     }
 }
 
-/// Whether what stands behind this word is no name of a file.
-fn takes_word(word: &str) -> bool {
-    matches!(
-        word,
-        "--script" | "--caller" | "--signals" | "--from" | "--to"
-    )
+/// Whether a word is an option of a tool for people, which the word behind it is the value of.
+fn takes_word(tool: &str, word: &str) -> bool {
+    match arguments_of(tool) {
+        Some(arguments) => arguments
+            .split(' ')
+            .any(|argument| argument.strip_suffix("=") == Some(word)),
+        None => false,
+    }
 }
 
 /// The words that name files. No flag does, nor what stands behind one that takes a word, nor `-`, nor the second word of `lus_live`, or of
@@ -51,17 +54,19 @@ pub fn named_files<'w>(
                 found.push(name)?;
             }
         }
-        is_taken = takes_word(name);
+        is_taken = takes_word(tool, name);
     }
     Ok(found)
 }
 
-/// Whether more may be said than a tool's own line of a fault: `lus` has its specified line alone, and `lus_format` names the file itself.
-pub fn is_for_people(tool: &str) -> bool {
+/// Whether a tool's own line of a fault of a file or a journal doesn't say which it is: `lus_format` names each file itself, and `lus_lsp` has
+/// none.
+pub fn names_none(tool: &str) -> bool {
     matches!(tool, "lus_explain" | "lus_draw" | "lus_audit" | "lus_live")
 }
 
-/// Says which file a tool for people couldn't open, behind the line of its fault: the last of those that its words name.
+/// Says which file a tool for people couldn't open, behind the line of its fault: the first of those that its words name, in whose
+/// order files are opened.
 pub fn name_unopened<R: Files, F: Sink>(
     rt: &R,
     alloc: Global,
@@ -72,13 +77,7 @@ pub fn name_unopened<R: Files, F: Sink>(
     let Ok(files) = named_files(alloc, tool, words) else {
         return;
     };
-    let mut unopened = None;
-    for name in &files {
-        if is_unopened(rt, name) {
-            unopened = Some(*name);
-        }
-    }
-    if let Some(name) = unopened {
+    if let Some(name) = files.iter().find(|name| is_unopened(rt, name)) {
         for text in [
             tool,
             ": there is no file `",

@@ -5,12 +5,14 @@
 
 mod files;
 mod journal;
+mod mistaken;
 mod sections;
 mod usage;
 mod wrong_line;
 
-use crate::files::{is_for_people, name_unopened};
+use crate::files::{name_unopened, names_none};
 use crate::journal::JournalFile;
+use crate::mistaken::{arguments_of, explain_words};
 use crate::usage::introduce;
 use crate::wrong_line::{Told, explain_line};
 use lus_cli::{Fault, command, tell};
@@ -149,7 +151,8 @@ fn run<O: Sink, F: Sink>(
     Some(status)
 }
 
-/// The same, of a tool of which more is said behind the line of a fault: which file it is, and what is wrong with the line of a journal.
+/// The same, of a tool for people. Behind the line of a fault it is said which argument or which file it is of, or what is wrong with the
+/// line of a journal.
 fn run_for_people<O: Sink, F: Sink>(
     rt: &HostRuntime,
     tool: &str,
@@ -159,9 +162,13 @@ fn run_for_people<O: Sink, F: Sink>(
 ) -> Option<u8> {
     let mut told = Told::new(rt.alloc(), faults);
     let status = run(rt, tool, words, output, &mut told);
+    let is_of_arguments = told.is_of_arguments();
     let line = told.journal_line();
     drop(told);
-    if status == Some(FILE_FAILED) {
+    if is_of_arguments && !words.is_empty() {
+        explain_words(rt.alloc(), tool, words, faults);
+    }
+    if status == Some(FILE_FAILED) && names_none(tool) {
         name_unopened(rt, rt.alloc(), tool, words, faults);
     }
     if let Some(number) = line {
@@ -181,7 +188,7 @@ fn main(rt: HostRuntime) -> ExitCode {
     if let Some(status) = introduce(tool, words, &mut output, &mut faults) {
         return ExitCode::from(status);
     }
-    let status = if is_for_people(tool) {
+    let status = if arguments_of(tool).is_some() {
         run_for_people(&rt, tool, words, &mut output, &mut faults)
     } else {
         run(&rt, tool, words, &mut output, &mut faults)

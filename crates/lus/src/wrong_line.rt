@@ -28,6 +28,11 @@ impl<'o, O: Sink> Told<'o, O> {
         }
     }
 
+    /// Whether the last fault is of the arguments.
+    pub fn is_of_arguments(&self) -> bool {
+        self.line.as_slice() == b"error words\n"
+    }
+
     /// The number of the line of a journal that the last fault is of, if it is of one.
     pub fn journal_line(&self) -> Option<u64> {
         let line = from_utf8(&self.line).ok()?;

@@ -1,0 +1,95 @@
+//! Which argument of a tool for people is wrong, and what is near it.
+
+use clap::{Arg, ArgAction, Command};
+use lus_cli::{bare, with_flag, with_optional, with_required, with_value};
+use lus_devices::{Sink, write_all};
+use lus_printable::printable;
+use std::alloc::{AllocError, Global};
+
+/// The arguments of a tool for people as they are typed: a flag, an option that a `=` stands behind, and what stands at its place, with
+/// brackets where it may be missing and dots where it may be there several times.
+pub fn arguments_of(tool: &str) -> Option<&'static str> {
+    match tool {
+        "lus_explain" => Some("--json --warnings --script= --error= PROGRAM [SCRIPTS]"),
+        "lus_format" => Some("--check --write FILE.."),
+        "lus_draw" => Some(
+            "--html --waves --csv --vcd --all --from= --to= --signals= PROGRAM [JOURNAL]",
+        ),
+        "lus_audit" => Some("--why --many PROGRAM JOURNAL [LOG]"),
+        "lus_live" => Some("--json --csv --many --caller= PROGRAM NODE [JOURNAL]"),
+        "lus_lsp" => Some("--stdio"),
+        _ => None,
+    }
+}
+
+/// A command with one more of the arguments that are typed so.
+fn with_argument<'a>(
+    alloc: Global,
+    command: Command<'a>,
+    argument: &'a str,
+) -> Result<Command<'a>, AllocError> {
+    if let Some(name) = argument.strip_prefix("--") {
+        return match name.strip_suffix("=") {
+            Some(name) => with_value(alloc, command, name),
+            None => with_flag(alloc, command, name),
+        };
+    }
+    if let Some(name) = argument.strip_suffix("..") {
+        let several = Arg::new(alloc, name).required(true);
+        return command.arg(several.action(ArgAction::Append));
+    }
+    match argument.strip_prefix("[") {
+        Some(name) => with_optional(alloc, command, name.trim_end_matches(']')),
+        None => with_required(alloc, command, argument),
+    }
+}
+
+/// What is wrong with the words behind a tool's name, on lines of their own; an empty text where each word is an argument.
+fn mistake_in(
+    alloc: Global,
+    tool: &str,
+    arguments: &str,
+    words: &[String],
+) -> Result<String, AllocError> {
+    let mut command = bare(alloc, tool);
+    for argument in arguments.split(' ') {
+        command = with_argument(alloc, command, argument)?;
+    }
+    match command.try_get_matches_from(words) {
+        Ok(_) => Ok(String::new(alloc)),
+        Err(error) => format!(in alloc; "{error}"),
+    }
+}
+
+/// Says it of a tool in a line.
+fn tell_line<F: Sink>(alloc: Global, tool: &str, text: &str, faults: &mut F) {
+    if let Ok(text) = printable(alloc, text.as_bytes()) {
+        for piece in [tool, ": ", text.as_str(), "\n"] {
+            let _ = write_all(faults, piece.as_bytes());
+        }
+    }
+}
+
+/// Says which of the words behind a tool's name is wrong and what is near it, and where its arguments are told.
+pub fn explain_words<F: Sink>(alloc: Global, tool: &str, words: &[String], faults: &mut F) {
+    let Some(arguments) = arguments_of(tool) else {
+        return;
+    };
+    let Ok(mistake) = mistake_in(alloc, tool, arguments, words) else {
+        return;
+    };
+    if mistake.is_empty() {
+        let together = "these arguments do not go together, or have another value than they take";
+        tell_line(alloc, tool, together, faults);
+    }
+    // (the usage that follows is clap's own, which says less than that of `--help`)
+    for line in mistake.lines().take_while(|line| !line.starts_with("Usage: ")) {
+        if !line.is_empty() {
+            let text = line.strip_prefix("error: ").unwrap_or(line);
+            tell_line(alloc, tool, text, faults);
+        }
+    }
+    for piece in [tool, ": see `", tool, " --help`\n"] {
+        let _ = write_all(faults, piece.as_bytes());
+    }
+}
