@@ -65,6 +65,13 @@ pub fn names_none(tool: &str) -> bool {
     matches!(tool, "lus_explain" | "lus_draw" | "lus_audit" | "lus_live")
 }
 
+fn tell_unopened<F: Sink>(tool: &str, name: &str, faults: &mut F) {
+    let end = "`, or it can't be opened\n";
+    for text in [tool, ": there is no file `", name, end] {
+        let _ = write_all(faults, text.as_bytes());
+    }
+}
+
 /// Says which file a tool for people couldn't open, behind the line of its fault: the first of those that its words name, in whose
 /// order files are opened.
 pub fn name_unopened<R: Files, F: Sink>(
@@ -77,14 +84,10 @@ pub fn name_unopened<R: Files, F: Sink>(
     let Ok(files) = named_files(alloc, tool, words) else {
         return;
     };
-    if let Some(name) = files.iter().find(|name| is_unopened(rt, name)) {
-        for text in [
-            tool,
-            ": there is no file `",
-            name,
-            "`, or it can't be opened\n",
-        ] {
-            let _ = write_all(faults, text.as_bytes());
+    for name in &files {
+        if is_unopened(rt, name) {
+            tell_unopened(tool, name, faults);
+            return;
         }
     }
 }
