@@ -12,8 +12,8 @@ mod wrong_line;
 
 use crate::files::{name_unopened, names_none};
 use crate::journal::JournalFile;
-use crate::mistaken::{arguments_of, explain_words};
-use crate::usage::introduce;
+use crate::mistaken::{arguments_of, explain_order, explain_signal, explain_words};
+use crate::usage::{introduce, was_introduced};
 use crate::wrong_line::{Told, explain_line};
 use lus_cli::{Fault, command, tell};
 use lus_devices::{Disk, Input, Output, Sink, write_all};
@@ -23,6 +23,7 @@ use std::collections::hash_map::RandomState;
 use std::env;
 use std::io::ErrorKind;
 use std::process::ExitCode;
+use std::str::from_utf8;
 
 /// The status of a file that couldn't be read, or an output that couldn't be written.
 const FILE_FAILED: u8 = 3;
@@ -151,8 +152,28 @@ fn run<O: Sink, F: Sink>(
     Some(status)
 }
 
-/// The same, of a tool for people. Behind the line of a fault it is said which argument or which file it is of, or what is wrong with the
-/// line of a journal.
+/// Says behind the line of a fault more of it: which argument, file or signal it is of, or what is wrong with the line of a journal.
+fn explain_fault<F: Sink>(
+    rt: &HostRuntime,
+    tool: &str,
+    words: &[String],
+    fault: &str,
+    faults: &mut F,
+) {
+    if fault == "error words" && !was_introduced(tool, words) {
+        explain_words(rt.alloc(), tool, words, faults);
+    } else if fault.starts_with("error E") {
+        explain_order(rt, rt.alloc(), tool, words, faults);
+    } else if let Some(place) = fault.strip_prefix("error signal ") {
+        explain_signal(rt.alloc(), tool, words, place, faults);
+    } else if let Some(number) = fault.strip_prefix("error journal line ") {
+        if let Ok(number) = number.parse::<u64>() {
+            explain_line(rt, rt.alloc(), tool, words, number, faults);
+        }
+    }
+}
+
+/// The same as `run`, of a tool for people, which says more of a fault.
 fn run_for_people<O: Sink, F: Sink>(
     rt: &HostRuntime,
     tool: &str,
@@ -162,18 +183,11 @@ fn run_for_people<O: Sink, F: Sink>(
 ) -> Option<u8> {
     let mut told = Told::new(rt.alloc(), faults);
     let status = run(rt, tool, words, output, &mut told);
-    let is_of_arguments = told.is_of_arguments();
-    let line = told.journal_line();
-    drop(told);
-    if is_of_arguments && !words.is_empty() {
-        explain_words(rt.alloc(), tool, words, faults);
-    }
+    let fault = told.fault();
     if status == Some(FILE_FAILED) && names_none(tool) {
         name_unopened(rt, rt.alloc(), tool, words, faults);
     }
-    if let Some(number) = line {
-        explain_line(rt, rt.alloc(), tool, words, number, faults);
-    }
+    explain_fault(rt, tool, words, from_utf8(&fault).unwrap_or(""), faults);
     status
 }
 

@@ -1,10 +1,16 @@
 //! Which argument of a tool for people is wrong, and what is near it.
 
+use crate::files::{named_files, opens};
+use crate::wrong_line::read_line;
 use clap::{Arg, ArgAction, Command};
 use lus_cli::{bare, with_flag, with_optional, with_required, with_value};
-use lus_devices::{Sink, write_all};
+use lus_devices::{Disk, Sink, write_all};
 use lus_printable::printable;
 use std::alloc::{AllocError, Global};
+use std::rt::Files;
+
+/// A hint of clap's that helps nobody here: no file's name is likely to begin with two hyphens.
+const AS_VALUE: &str = "tip: to pass ";
 
 /// The arguments of a tool for people as they are typed: a flag, an option that a `=` stands behind, and what stands at its place, with
 /// brackets where it may be missing and dots where it may be there several times.
@@ -52,7 +58,10 @@ fn mistake_in(
     words: &[String],
 ) -> Result<String, AllocError> {
     let mut command = bare(alloc, tool);
-    for argument in arguments.split(' ') {
+    for argument in ["--help", "--version"]
+        .into_iter()
+        .chain(arguments.split(' '))
+    {
         command = with_argument(alloc, command, argument)?;
     }
     match command.try_get_matches_from(words) {
@@ -83,13 +92,80 @@ pub fn explain_words<F: Sink>(alloc: Global, tool: &str, words: &[String], fault
         tell_line(alloc, tool, together, faults);
     }
     // (the usage that follows is clap's own, which says less than that of `--help`)
-    for line in mistake.lines().take_while(|line| !line.starts_with("Usage: ")) {
-        if !line.is_empty() {
-            let text = line.strip_prefix("error: ").unwrap_or(line);
+    for line in mistake
+        .lines()
+        .take_while(|line| !line.starts_with("Usage: "))
+    {
+        let text = line.strip_prefix("error: ").unwrap_or(line).trim();
+        if !text.is_empty() && !text.starts_with(AS_VALUE) {
             tell_line(alloc, tool, text, faults);
         }
     }
     for piece in [tool, ": see `", tool, " --help`\n"] {
         let _ = write_all(faults, piece.as_bytes());
+    }
+}
+
+/// What stands behind an option, in the same word or in the next one.
+fn value_behind<'w>(words: &'w [String], option: &str) -> Option<&'w str> {
+    let mut is_next = false;
+    for word in words {
+        if is_next {
+            return Some(word.as_str());
+        }
+        if let Some(rest) = word.strip_prefix(option) {
+            if let Some(value) = rest.strip_prefix("=") {
+                return Some(value);
+            }
+            is_next = rest.is_empty();
+        }
+    }
+    None
+}
+
+/// Names the signal at a place among those that are asked for.
+pub fn explain_signal<F: Sink>(
+    alloc: Global,
+    tool: &str,
+    words: &[String],
+    place: &str,
+    faults: &mut F,
+) {
+    let Ok(place) = place.parse::<usize>() else {
+        return;
+    };
+    let names = value_behind(words, "--signals").unwrap_or("").split(',');
+    let Some(name) = names.skip(place.saturating_sub(1)).next() else {
+        return;
+    };
+    if let Ok(text) = format!(in alloc; "a node there has no variable `{name}`") {
+        tell_line(alloc, tool, text.as_str(), faults);
+    }
+}
+
+/// Says where the file of a program is that of a journal.
+pub fn explain_order<R: Files, F: Sink>(
+    rt: &R,
+    alloc: Global,
+    tool: &str,
+    words: &[String],
+    faults: &mut F,
+) {
+    let Ok(files) = named_files(alloc, tool, words) else {
+        return;
+    };
+    let Some(name) = files.first() else {
+        return;
+    };
+    let mut line = Vec::new(alloc);
+    if !opens(rt, name) || read_line(&Disk(rt), name, 1, &mut line).is_none() {
+        return;
+    }
+    if line.starts_with(b"instance ") {
+        if let Ok(text) = format!(in alloc;
+            "{name} is a journal, and the program's file comes first"
+        ) {
+            tell_line(alloc, tool, text.as_str(), faults);
+        }
     }
 }

@@ -110,6 +110,15 @@ fn usage_of(tool: &str) -> Option<&'static str> {
 const NUMBERS: &str =
     "lus_explain: the numbers are E1 to E11 and S1 to S6, and there is `warnings`\n";
 
+/// Whether `introduce` has said already how a tool is used: that there are no arguments, or which numbers there are.
+pub fn was_introduced(tool: &str, words: &[String]) -> bool {
+    match words {
+        [] => true,
+        [flag, _number] => tool == "lus_explain" && flag.as_str() == "--error",
+        _ => false,
+    }
+}
+
 /// The section of docs/ERRORS.md that `--error NUMBER` asks for. Where there is none, it is said beside the faults which there are.
 fn section_asked<F: Sink>(tool: &str, words: &[String], faults: &mut F) -> Option<&'static str> {
     let [flag, number] = words else {

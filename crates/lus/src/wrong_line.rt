@@ -28,18 +28,13 @@ impl<'o, O: Sink> Told<'o, O> {
         }
     }
 
-    /// Whether the last fault is of the arguments.
-    pub fn is_of_arguments(&self) -> bool {
-        self.line.as_slice() == b"error words\n"
-    }
-
-    /// The number of the line of a journal that the last fault is of, if it is of one.
-    pub fn journal_line(&self) -> Option<u64> {
-        let line = from_utf8(&self.line).ok()?;
-        let number = line
-            .strip_prefix("error journal line ")?
-            .strip_suffix('\n')?;
-        number.parse::<u64>().ok()
+    /// The line of the last fault, without its line feed.
+    pub fn fault(self) -> Vec<u8> {
+        let mut line = self.line;
+        if line.ends_with(b"\n") {
+            let _ = line.pop();
+        }
+        line
     }
 }
 
@@ -61,7 +56,7 @@ impl<O: Sink> Sink for Told<'_, O> {
 }
 
 /// Reads the line of this number in a file.
-fn read_line<D: Folder>(folder: &D, name: &str, number: u64, line: &mut Vec<u8>) -> Option<()> {
+pub fn read_line<D: Folder>(folder: &D, name: &str, number: u64, line: &mut Vec<u8>) -> Option<()> {
     let mut source = Buffered::new(folder.open(name).ok()?);
     for _line in 0..number {
         read_whole_line(&mut source, line).ok()?;
