@@ -13,6 +13,7 @@ use crate::files::{is_for_people, name_unopened};
 use crate::journal::JournalFile;
 use crate::usage::introduce;
 use crate::wrong_line::{Told, explain_line};
+use lus_bursts::{Counted, Waiting};
 use lus_cli::{Fault, command, tell};
 use lus_devices::{Disk, Input, Output, Sink, write_all};
 use lus_lines::Buffered;
@@ -82,13 +83,18 @@ fn live_many<O: Sink, F: Sink>(
     let Ok(keys) = RandomState::new(rt) else {
         return tell(faults, Fault::File);
     };
-    let mut lines = Buffered::new(Input(rt.stdin()));
+    let waiting = Waiting::new();
+    let mut lines = Buffered::new(Counted {
+        waiting: &waiting,
+        source: Input(rt.stdin()),
+    });
     let mut log = JournalFile::new(rt);
     let status = lus_many::command(
         rt.alloc(),
         &Disk(rt),
         words,
         keys,
+        &waiting,
         &mut lines,
         &mut log,
         output,
