@@ -1,5 +1,6 @@
 //! The files that the words of a tool for people name, and which it couldn't open.
 
+use crate::instance::names_instance;
 use lus_devices::{Sink, write_all};
 use lus_many::is_many;
 use std::alloc::{AllocError, Global};
@@ -27,12 +28,12 @@ fn is_unopened<R: Files>(rt: &R, name: &str) -> bool {
 fn takes_word(word: &str) -> bool {
     matches!(
         word,
-        "--script" | "--caller" | "--signals" | "--from" | "--to"
+        "--script" | "--caller" | "--signals" | "--from" | "--to" | "--instance"
     )
 }
 
-/// The words that name files. No flag does, nor what stands behind one that takes a word, nor `-`, nor the second word of `lus_live`, or of
-/// `lus_audit --many`, that is no flag: a node's name.
+/// The words that name files. No flag does, nor what stands behind one that takes a word, nor `-`, nor the second word of `lus_live`, of
+/// `lus_audit --many` or of `lus_draw --instance`, that is no flag: a node's name.
 pub fn named_files<'w>(
     alloc: Global,
     tool: &str,
@@ -41,7 +42,7 @@ pub fn named_files<'w>(
     let mut found = Vec::new(alloc);
     let mut count = 0usize;
     let mut is_taken = false;
-    let has_node = tool == "lus_live" || is_many(words);
+    let has_node = tool == "lus_live" || is_many(words) || names_instance(words);
     for word in words {
         let name = word.as_str();
         if !is_taken && !name.starts_with("-") {

@@ -4,12 +4,14 @@
 #![tactic(auto)]
 
 mod files;
+mod instance;
 mod journal;
 mod sections;
 mod usage;
 mod wrong_line;
 
 use crate::files::{is_for_people, name_unopened};
+use crate::instance::{draw_instance, names_instance};
 use crate::journal::JournalFile;
 use crate::usage::introduce;
 use crate::wrong_line::{Told, explain_line};
@@ -141,6 +143,7 @@ fn run<O: Sink, F: Sink>(
             let mut input = Input(rt.stdin());
             lus_formatter::command(rt.alloc(), &disk, words, &mut input, output, faults)
         }
+        "lus_draw" if names_instance(words) => draw_instance(rt, rt.alloc(), words, output, faults),
         "lus_draw" => lus_draw::command(rt.alloc(), &disk, words, output, faults),
         "lus_audit" if is_many(words) => audit_many(rt, words, output, faults),
         "lus_live" if is_many(words) => live_many(rt, words, output, faults),

@@ -36,6 +36,7 @@ A rejected file stays as it is. Status: 0 done, 1 a file is rejected, or would c
 
 const DRAW: &str = "usage: lus_draw [--html | --waves | --csv | --vcd] [--from N] [--to N]
                 [--all | --signals NAMES] PROGRAM JOURNAL
+       lus_draw --instance NAME [..] PROGRAM NODE LOG
        lus_draw --html JOURNAL
 
 Draws journals that lus or lus_live wrote, if they are valid: as a chronogram, or
@@ -47,7 +48,8 @@ Draws journals that lus or lus_live wrote, if they are valid: as a chronogram, o
   --all      with the node's locals; --signals a,f.c,f#2.*: these, c and all of calls of the node f
 
 --from and --to draw the instants from the N-th to the N-th alone, not with --html or --vcd.
-Without PROGRAM a page shows the journal's lines. Status: 0 drawn, 1 to 4 as lus.
+--instance draws one of the instances of NODE in a log of `lus_live --many`. Without PROGRAM a page
+shows the journal's lines. Status: 0 drawn, 1 to 4 as lus.
 ";
 
 const AUDIT: &str = "usage: lus_audit [--why] PROGRAM JOURNAL
