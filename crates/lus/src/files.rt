@@ -1,5 +1,6 @@
 //! The files that the words of a tool for people name, and which it couldn't open.
 
+use crate::instance::names_instance;
 use crate::mistaken::arguments_of;
 use lus_devices::{Sink, write_all};
 use lus_many::is_many;
@@ -34,8 +35,8 @@ fn takes_word(tool: &str, word: &str) -> bool {
     }
 }
 
-/// The words that name files. No flag does, nor what stands behind one that takes a word, nor `-`, nor the second word of `lus_live`, or of
-/// `lus_audit --many`, that is no flag: a node's name.
+/// The words that name files. No flag does, nor what stands behind one that takes a word, nor `-`, nor the second word of `lus_live`, of
+/// `lus_audit --many` or of `lus_draw --instance`, that is no flag: a node's name.
 pub fn named_files<'w>(
     alloc: Global,
     tool: &str,
@@ -44,7 +45,7 @@ pub fn named_files<'w>(
     let mut found = Vec::new(alloc);
     let mut count = 0usize;
     let mut is_taken = false;
-    let has_node = tool == "lus_live" || is_many(words);
+    let has_node = tool == "lus_live" || is_many(words) || names_instance(words);
     for word in words {
         let name = word.as_str();
         if !is_taken && !name.starts_with("-") {

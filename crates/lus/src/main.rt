@@ -4,6 +4,7 @@
 #![tactic(auto)]
 
 mod files;
+mod instance;
 mod journal;
 mod mistaken;
 mod sections;
@@ -11,10 +12,12 @@ mod usage;
 mod wrong_line;
 
 use crate::files::{name_unopened, names_none};
+use crate::instance::{draw_instance, names_instance};
 use crate::journal::JournalFile;
 use crate::mistaken::{arguments_of, explain_order, explain_signal, explain_words};
 use crate::usage::{introduce, was_introduced};
-use crate::wrong_line::{Told, explain_line};
+use crate::wrong_line::{Told, explain_line, journal_line};
+use lus_bursts::{Counted, Waiting};
 use lus_cli::{Fault, command, tell};
 use lus_devices::{Disk, Input, Output, Sink, write_all};
 use lus_lines::Buffered;
@@ -85,13 +88,18 @@ fn live_many<O: Sink, F: Sink>(
     let Ok(keys) = RandomState::new(rt) else {
         return tell(faults, Fault::File);
     };
-    let mut lines = Buffered::new(Input(rt.stdin()));
+    let waiting = Waiting::new();
+    let mut lines = Buffered::new(Counted {
+        waiting: &waiting,
+        source: Input(rt.stdin()),
+    });
     let mut log = JournalFile::new(rt);
     let status = lus_many::command(
         rt.alloc(),
         &Disk(rt),
         words,
         keys,
+        &waiting,
         &mut lines,
         &mut log,
         output,
@@ -138,6 +146,7 @@ fn run<O: Sink, F: Sink>(
             let mut input = Input(rt.stdin());
             lus_formatter::command(rt.alloc(), &disk, words, &mut input, output, faults)
         }
+        "lus_draw" if names_instance(words) => draw_instance(rt, rt.alloc(), words, output, faults),
         "lus_draw" => lus_draw::command(rt.alloc(), &disk, words, output, faults),
         "lus_audit" if is_many(words) => audit_many(rt, words, output, faults),
         "lus_live" if is_many(words) => live_many(rt, words, output, faults),
@@ -166,10 +175,8 @@ fn explain_fault<F: Sink>(
         explain_order(rt, rt.alloc(), tool, words, faults);
     } else if let Some(place) = fault.strip_prefix("error signal ") {
         explain_signal(rt.alloc(), tool, words, place, faults);
-    } else if let Some(number) = fault.strip_prefix("error journal line ") {
-        if let Ok(number) = number.parse::<u64>() {
-            explain_line(rt, rt.alloc(), tool, words, number, faults);
-        }
+    } else if let Some(number) = journal_line(fault.as_bytes()) {
+        explain_line(rt, rt.alloc(), tool, words, number, faults);
     }
 }
 

@@ -19,10 +19,10 @@ pub fn arguments_of(tool: &str) -> Option<&'static str> {
         "lus_explain" => Some("--json --warnings --script= --error= PROGRAM [SCRIPTS]"),
         "lus_format" => Some("--check --write FILE.."),
         "lus_draw" => Some(
-            "--html --waves --csv --vcd --all --from= --to= --signals= PROGRAM [JOURNAL]",
+            "--html --waves --csv --vcd --all --from= --to= --signals= --instance= PROGRAM [JOURNAL] [LOG]",
         ),
         "lus_audit" => Some("--why --many PROGRAM JOURNAL [LOG]"),
-        "lus_live" => Some("--json --csv --many --caller= PROGRAM NODE [JOURNAL]"),
+        "lus_live" => Some("--json --csv --many --sync --caller= PROGRAM NODE [JOURNAL]"),
         "lus_lsp" => Some("--stdio"),
         _ => None,
     }

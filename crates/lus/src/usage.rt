@@ -36,6 +36,7 @@ A rejected file stays as it is. Status: 0 done, 1 a file is rejected, or would c
 
 const DRAW: &str = "usage: lus_draw [--html | --waves | --csv | --vcd] [--from N] [--to N]
                 [--all | --signals NAMES] PROGRAM JOURNAL
+       lus_draw --instance NAME [..] PROGRAM NODE LOG
        lus_draw --html JOURNAL
 
 Draws journals that lus or lus_live wrote, if they are valid: as a chronogram, or
@@ -47,7 +48,8 @@ Draws journals that lus or lus_live wrote, if they are valid: as a chronogram, o
   --all      with the node's locals; --signals a,f.c,f#2.*: these, c and all of calls of the node f
 
 --from and --to draw the instants from the N-th to the N-th alone, not with --html or --vcd.
-Without PROGRAM a page shows the journal's lines. Status: 0 drawn, 1 to 4 as lus.
+--instance draws one of the instances of NODE in a log of `lus_live --many`. Without PROGRAM a page
+shows the journal's lines. Status: 0 drawn, 1 to 4 as lus.
 ";
 
 const AUDIT: &str = "usage: lus_audit [--why] PROGRAM JOURNAL
@@ -66,14 +68,15 @@ Status: 0 valid, 1 the program is rejected, 2 a wrong line, or no journal,
 ";
 
 const LIVE: &str = "usage: lus_live [--json | --csv] [--caller NAME] PROGRAM NODE [JOURNAL]
-       lus_live --many [--json] PROGRAM NODE [[--caller NAME] LOG]
+       lus_live --many [--json] PROGRAM NODE [[--caller NAME] [--sync] LOG]
 
 Runs a node in a pipe: reads calls from standard input, a line of JSON each, and writes the
 journal's entry of each, by the caller NAME or `user`, before it reads the next; with --json its
 reply as JSON. With --csv it reads inputs as CSV below a line of their names, and writes outputs
 so. It goes on behind JOURNAL, replayed first: `lus_live PROGRAM NODE log < calls >> log`, also
 after any kill; with --json it writes each entry to JOURNAL itself, and then the reply, as with
---many to LOG. With --many a line is INSTANCE CALLER CALL, or without LOG an entry to replay.
+--many to LOG, with --sync once LOG is synced. With --many a line is INSTANCE CALLER CALL, or
+without LOG an entry to replay.
 
   [18, 19, 22]                 a step with the inputs in their order, null for an absent one
   {\"inputs\": {\"low\": 19, ..}}  a step with the inputs by their names
