@@ -27,7 +27,7 @@ fn is_unopened<R: Files>(rt: &R, name: &str) -> bool {
 fn takes_word(word: &str) -> bool {
     matches!(
         word,
-        "--script" | "--caller" | "--signals" | "--from" | "--to"
+        "--script" | "--caller" | "--signals" | "--from" | "--to" | "--node"
     )
 }
 
@@ -58,7 +58,10 @@ pub fn named_files<'w>(
 
 /// Whether more may be said than a tool's own line of a fault: `lus` has its specified line alone, and `lus_format` names the file itself.
 pub fn is_for_people(tool: &str) -> bool {
-    matches!(tool, "lus_explain" | "lus_draw" | "lus_audit" | "lus_live")
+    matches!(
+        tool,
+        "lus_explain" | "lus_draw" | "lus_audit" | "lus_live" | "lus_test"
+    )
 }
 
 /// Says which file a tool for people couldn't open, behind the line of its fault: the last of those that its words name.
