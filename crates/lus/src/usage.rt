@@ -88,9 +88,9 @@ const TEST: &str = "usage: lus_test [--node NODE] PROGRAM TABLE..
 
 Tries a node on tables of comma-separated values: the first line names inputs and outputs, and
 each row is an instant, with its inputs and the outputs that are expected. An empty cell is an
-absent input, or asks nothing of an output. Says of each TABLE that it passes, or which output
-of which row is the first that is another, with the rows before it. The node is what the name of
-TABLE has before its first dot, or
+absent input, or asks nothing of an output; a dash asks that it is absent. Says of each TABLE
+that it passes, or which output of which row is the first that is another, with the rows before
+it. The node is what the name of TABLE has before its first dot, or
 
   --node NODE  this one
   --write      prints the table with the outputs that come in the place of those expected

@@ -47,14 +47,15 @@ records_file most items records file read few those =
     file_then file (λ bytes. items ≡ take (most + 1) bytes) (λ text. AreRecordsOf text records)
     (λ bytes is. subst (λ t. AreRecordsOf t records) (whole most bytes items is few) those) read
 
-pub tested_file : (p : Program) (f : ℕ) (name : Text) (file : Known) (records : List (List Text)) (replies : List Reply) (finding : Finding)
-    → node_named p name ≡ Some f → WithFile file (λ text. AreRecordsOf text records) → HasTested p f records replies finding → finding ≡ Passed
+pub tested_file : (p : Program) (f : ℕ) (name : Text) (file : Known) (records : List (List Text)) (names : List Text) (rows : List (List Text))
+    (replies : List Reply) (finding : Finding) → records ≡ names ∷ rows
+    → node_named p name ≡ Some f → WithFile file (λ text. AreRecordsOf text records) → HasTested p f names rows replies finding → finding ≡ Passed
     → FilePasses p name file
-tested_file p f name file records replies finding named those tested is = (
+tested_file p f name file records names rows replies finding parts named those tested is = (
   f,
   named,
   file_then file (λ text. AreRecordsOf text records) (Passes p f)
-      (λ text are. (records, replies, are, subst (HasTested p f records replies) is tested)) those,
+      (λ text are. (names, rows, replies, subst (AreRecordsOf text) parts are, subst (HasTested p f names rows replies) is tested)) those,
 )
 
 pub table_passes : (known : Text → Known) (p : Program) (given : Option Text) (name file : Text) → IsNamed given name → FilePasses p name (known file)

@@ -1,5 +1,5 @@
 -- What is found of a table: that each output is the one that is expected, or the first that isn't.
-use Rattle.std.specs.Prelude.{◌≡◌, ◌+◌, ◌||◌, ℕ, Bool, true, List, [], ◌∷◌, map, slice_get, Option, Some, None, unwrap_or, if◌then◌else◌}
+use Rattle.std.specs.Prelude.{◌≡◌, ◌+◌, ◌||◌, ℕ, Bool, true, List, [], ◌∷◌, map, slice_get, Option, Some, None, codes, unwrap_or, if◌then◌else◌}
 use Rattle.std.specs.Str.{bytes_eq}
 use Rattle.lus_values.specs.Names.{Names, Text}
 use Rattle.lus_program.specs.Programs.{Program, Variable}
@@ -12,9 +12,14 @@ use Rattle.lus_test.specs.declared.finding.Finding.{Finding}
 use Rattle.lus_test.specs.declared.finding.Finding.TheVariants.{Passed, Refused, Differs}
 use Rattle.lus_test.specs.declared.finding.Outputs.{Outputs}
 
--- the cells of the outputs' columns in a reply: words of journals, empty ones for an output that is absent; a refusal has none
+-- a cell as a word of journals, in which `-` stands for what is absent
+abbrev pub word_of : Text → Text
+word_of [] = codes "-"
+word_of (b ∷ bs) = b ∷ bs
+
+-- the words of the outputs' columns in a reply; a refusal has none
 abbrev pub told_in : Program → Names → List Variable → Reply → Option (List Text)
-told_in p names outputs (replies.Outputs row) = Some (row_cells p names outputs row)
+told_in p names outputs (replies.Outputs row) = Some (map word_of (row_cells p names outputs row))
 told_in p names outputs (replies.Rows rows) = None
 told_in p names outputs replies.Done = None
 told_in p names outputs (replies.Refused why) = None

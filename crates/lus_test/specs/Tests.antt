@@ -21,12 +21,9 @@ told_of p f = told_in p (names_of p) (outputs_of (node_at p f))
 abbrev pub finding_of : Program → ℕ → List Text → List (List Text) → List Reply → Finding
 finding_of p f names rows replies = finding_from 0 (told_of p f) (map (place_of (output_columns p f)) names) rows replies
 
--- The first record is the head of a table of the node, and each other one is a step under it; these are the right replies to the steps,
--- and this is found of them.
-pub record HasTested (p : Program) (f : ℕ) (records : List (List Text)) (replies : List Reply) (finding : Finding) : Type 0 where
-  pub names : List Text
-  pub rows : List (List Text)
-  pub parts : records ≡ names ∷ rows
+-- The names are the head of a table of the node, and each row is a step under it; these are the right replies to the steps, and this is
+-- found of them.
+pub record HasTested (p : Program) (f : ℕ) (names : List Text) (rows : List (List Text)) (replies : List Reply) (finding : Finding) : Type 0 where
   pub headed : IsHead p f names
   pub steps : List Request
   pub asked : Some steps ≡ each (step_under p f names) rows
@@ -35,4 +32,5 @@ pub record HasTested (p : Program) (f : ℕ) (records : List (List Text)) (repli
 
 -- A table passes: its rows are steps, and each output of the node's run on them is the one that is expected.
 abbrev pub Passes : Program → ℕ → Text → Type 0
-Passes p f text = (records : List (List Text)) × (replies : List Reply) × AreRecordsOf text records × HasTested p f records replies Passed
+Passes p f text = (names : List Text) × (rows : List (List Text)) × (replies : List Reply)
+    × AreRecordsOf text (names ∷ rows) × HasTested p f names rows replies Passed

@@ -1,9 +1,9 @@
 //! Tables whose outputs are filled in.
 
-ghost use Rattle.std.specs.Prelude.{◌≡◌, ◌++◌, IfOk, OnOk, map, unwrap_or, [], string_bytes};
+ghost use Rattle.std.specs.Prelude.{◌≡◌, ◌++◌, IfOk, OnOk, map, string_bytes};
 ghost use Rattle.csv.specs.Records.{fields_of};
 ghost use Rattle.lus_records.specs.Outputs.{record_text};
-ghost use Rattle.lus_test.specs.Findings.{cell_at, row_at, told_by};
+ghost use Rattle.lus_test.specs.Findings.{row_at, told_by};
 ghost use Rattle.lus_test.specs.Filling.{filled_cell, filled_from, rows_from, told_or_none};
 
 use crate::finding::{Outputs, cell_at, row_at};
@@ -24,30 +24,46 @@ fn told_or_none(outputs: &Outputs<'_>, reply: &Reply) -> Result<Vec<String>, Mem
 }
 
 /// What is told in the column that a cell stands under, and under no output's the cell itself.
-fn filled_cell<'c>(place: Option<usize>, told: &[&'c [u8]], cell: &'c [u8]) -> &'c [u8]
-    ensures { result.now ≡ filled_cell (map (λ t. t.now) told.now) place cell.now }
+fn filled_cell(
+    alloc: Global,
+    place: Option<usize>,
+    told: &[&[u8]],
+    cell: &[u8],
+) -> Result<Vec<u8>, Memory>
+    ensures { IfOk result (λ v. v.items ≡ filled_cell (map (λ t. t.now) told.now) place cell.now) }
 {
     match place {
-        Some(place) => cell_at(told, place),
-        None => cell,
+        Some(place) => Ok(cell_at(told, place).to_vec(alloc)?),
+        None => Ok(cell.to_vec(alloc)?),
     }
 }
 
 /// The cells of a row whose outputs are filled in.
-fn filled_cells<'c>(
+fn filled_cells(
     alloc: Global,
     places: &[Option<usize>],
-    told: &[&'c [u8]],
-    cells: &[&'c [u8]],
-) -> Result<Vec<&'c [u8]>, Memory>
-    ensures { IfOk result (λ v. map (λ t. t.now) v.items
+    told: &[&[u8]],
+    cells: &[&[u8]],
+) -> Result<Vec<Vec<u8>>, Memory>
+    ensures { IfOk result (λ v. map (λ t. t.items) v.items
         ≡ filled_from 0 (map (λ t. t.now) told.now) places.now (map (λ t. t.now) cells.now)) }
 {
     let mut filled = Vec::new(alloc);
     for (at, place) in places.iter().enumerate() {
-        filled.push(filled_cell(*place, told, cell_at(cells, at)))?;
+        filled.push(filled_cell(alloc, *place, told, cell_at(cells, at))?)?;
     }
     Ok(filled)
+}
+
+/// The bytes of cells.
+fn slices_of(alloc: Global, cells: &[Vec<u8>]) -> Result<Vec<&[u8]>, Memory>
+    ensures { IfOk result (λ v. map (λ t. t.now) v.items ≡ map (λ t. t.items) cells.now) }
+{
+    let mut slices = Vec::new(alloc);
+    for cell in cells {
+        slices.push(cell.as_slice())?;
+    }
+    Ok(slices)
 }
 
 /// Appends the record of these cells.
@@ -77,7 +93,8 @@ fn push_row(
     let told = bytes_of(outputs.alloc, &told)?;
     let cells = row_at(outputs.alloc, rows, row)?;
     let filled = filled_cells(outputs.alloc, places, &told, &cells)?;
-    push_record(outputs.alloc, text, &filled)
+    let slices = slices_of(outputs.alloc, &filled)?;
+    push_record(outputs.alloc, text, &slices)
 }
 
 /// A table whose outputs are those of these replies: what stands under an input stays, and the outputs of a refused row are empty.

@@ -6,7 +6,7 @@ ghost use Rattle.std.specs.Prelude.{position};
 ghost use Rattle.csv.specs.Records.{fields_of};
 ghost use Rattle.lus_program.specs.View.{program_seen, variable_of};
 ghost use Rattle.lus_scripts.specs.Scripts.{place_of};
-ghost use Rattle.lus_test.specs.Findings.{cell_at, finding_from, is_met, outcome_of, row_at, row_finding, told_by, unmet_from};
+ghost use Rattle.lus_test.specs.Findings.{cell_at, finding_from, is_met, outcome_of, row_at, row_finding, told_by, unmet_from, word_of};
 
 use csv::ByteRecord;
 use lus_program::{Program, Variable};
@@ -35,14 +35,36 @@ pub(crate) struct Outputs<'p> {
     pub variables: &'p [Variable],
 }
 
+/// A cell as a word: a dash, as journals have it, for one that is empty.
+fn word_of(alloc: Global, cell: &str) -> Result<String, Memory>
+    ensures { IfOk result (λ word. string_bytes word ≡ word_of cell.now) }
+{
+    if cell.is_empty() {
+        return Ok(String::from_str(alloc, "-")?);
+    }
+    Ok(String::from_str(alloc, cell)?)
+}
+
+/// Cells as words.
+fn words_of(alloc: Global, cells: &[String]) -> Result<Vec<String>, Memory>
+    ensures { IfOk result (λ v. map string_bytes v.items ≡ map word_of (map string_bytes cells.now)) }
+{
+    let mut words = Vec::new(alloc);
+    for cell in cells {
+        words.push(word_of(alloc, cell.as_str())?)?;
+    }
+    Ok(words)
+}
+
 impl Outputs<'_> {
     fn row(&self, row: &Row) -> Result<Vec<String>, Memory>
         ensures { IfOk result (λ v. Some (map string_bytes v.items) ≡ told_by self.now (Reply.Outputs row.now)) }
     {
-        row_cells(self.alloc, self.program, self.names, self.variables, row)
+        let cells = row_cells(self.alloc, self.program, self.names, self.variables, row)?;
+        words_of(self.alloc, &cells)
     }
 
-    /// The cells of the outputs' columns in a reply; a refusal has none.
+    /// The words of the outputs' columns in a reply; a refusal has none.
     pub(crate) fn told(&self, reply: &Reply) -> Result<Option<Vec<String>>, Memory>
         ensures { IfOk result (λ o. option_map (λ v. map string_bytes v.items) o ≡ told_by self.now reply.now) }
     {
@@ -57,9 +79,7 @@ impl Outputs<'_> {
 fn place_among(columns: &[String], name: &[u8]) -> Option<usize>
     ensures { result ≡ position (λ c. bytes_eq name.now (string_bytes c)) columns.now }
 {
-    columns
-        .iter()
-        .position(|column| name == column.as_bytes())
+    columns.iter().position(|column| name == column.as_bytes())
 }
 
 /// Of each name of a head the place of the column among these that it names.
@@ -89,11 +109,7 @@ pub(crate) fn cell_at<'c>(cells: &[&'c [u8]], place: usize) -> &'c [u8]
 }
 
 /// The cells of the row at a place, and none behind the last.
-pub(crate) fn row_at(
-    alloc: Global,
-    rows: &[ByteRecord],
-    place: usize,
-) -> Result<Vec<&[u8]>, Memory>
+pub(crate) fn row_at(alloc: Global, rows: &[ByteRecord], place: usize) -> Result<Vec<&[u8]>, Memory>
     ensures { IfOk result (λ v. map (λ t. t.now) v.items ≡ row_at (map fields_of rows.now) place) }
 {
     match rows.get(place) {

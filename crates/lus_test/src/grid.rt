@@ -41,7 +41,9 @@ fn push_line(text: &mut String, widths: &[usize], line: &[String]) -> Result<(),
         push_blanks(text, blanks)?;
         text.push_str(cell.as_str())?;
         let width = widths.get(place).copied().unwrap_or(0);
-        blanks = width.saturating_sub(width_of(cell.as_str())).saturating_add(2);
+        blanks = width
+            .saturating_sub(width_of(cell.as_str()))
+            .saturating_add(2);
     }
     text.push_str("\n")?;
     Ok(())

@@ -14,6 +14,9 @@ use lus_refusals::{push_refusal, why_word};
 use lus_values::Memory;
 use std::alloc::Global;
 
+/// The word of what is absent.
+const ABSENT: &[u8] = b"-";
+
 /// How many rows are shown before the one that is told.
 const ROWS_BEFORE: usize = 5;
 
@@ -91,17 +94,21 @@ fn push_difference(
     let expected = printable(outputs.alloc, cell)?;
     text.push_str("output ")?;
     push_name(text, &name)?;
-    if told.is_empty() {
+    if told == ABSENT {
         text.push_str(" is absent")?;
     } else {
         let told = printable(outputs.alloc, told)?;
         text.push_str(" is ")?;
         text.push_str(&told)?;
     }
-    text.push_str(" where ")?;
-    text.push_str(&expected)?;
-    text.push_str(" is expected")?;
-    push_near(text, outputs, cell)?;
+    if cell == ABSENT {
+        text.push_str(" where it should be absent")?;
+    } else {
+        text.push_str(" where ")?;
+        text.push_str(&expected)?;
+        text.push_str(" is expected")?;
+        push_near(text, outputs, cell)?;
+    }
     text.push_str("\n")?;
     Ok(())
 }
@@ -151,9 +158,10 @@ impl Report<'_> {
     /// Appends why the row at a place is refused.
     pub(crate) fn push_refused(&self, text: &mut String, row: usize) -> Result<(), Memory> {
         let outputs = &self.outputs;
-        let (Some(step), Some(Reply::Refused(why))) =
-            (self.tested.steps.get(row), self.tested.replies.get(row))
-        else {
+        let (Some(step), Some(Reply::Refused(why))) = (
+            self.tested.steps.get(row),
+            self.tested.replies.get(row),
+        ) else {
             return Ok(());
         };
         self.push_place(text, row)?;

@@ -17,7 +17,8 @@ use crate::finding::Finding;
 use crate::problem::{Problem, problem_of};
 use crate::reading::read_records;
 use crate::report::Report;
-use crate::testing::{Tested, outputs_of, test};
+use crate::table::refuse_empty;
+use crate::testing::{outputs_of, test};
 use crate::words::{Task, read_words};
 use csv::ByteRecord;
 use lus_cli::{Fault, read_file, read_program, tell};
@@ -143,12 +144,12 @@ fn try_file<D: Folder, O: Sink, F: Sink>(
 {
     let node = find_node(alloc, program, name)?;
     let records = records_of(alloc, folder, file)?;
-    let tested = match test(alloc, program, node, &records) {
+    let Some((head, rows)) = records.split_first() else {
+        return Err(problem_of(refuse_empty(alloc, program, node), &records));
+    };
+    let tested = match test(alloc, program, node, head, rows) {
         Ok(tested) => tested,
         Err(error) => return Err(problem_of(error, &records)),
-    };
-    let Some((head, rows)) = records.split_first() else {
-        return Err(Problem::Fault(Fault::Memory));
     };
     let report = Report {
         name: file,

@@ -1,11 +1,12 @@
 //! What a table asks: steps with the inputs of its rows.
 
-ghost use Rattle.std.specs.Prelude.{◌≡◌, ◌<◌, ◌++◌, length, IfOk, Some, map, string_bytes};
+ghost use Rattle.std.specs.Prelude.{◌≡◌, ◌<◌, length, IfOk, Some, map, string_bytes, true};
 ghost use Rattle.std.specs.Arc.{arc_value};
 ghost use Rattle.csv.specs.Records.{fields_of};
 ghost use Rattle.lus_live_instance.specs.MachineSpecs.CodeSpecs.Codes.{program_of};
+ghost use Rattle.lus_records.specs.Heads.{head_of};
 ghost use Rattle.lus_scripts.specs.Forms.{each};
-ghost use Rattle.lus_test.specs.Tables.{IsHead, columns_of, has_all, input_columns, step_under};
+ghost use Rattle.lus_test.specs.Tables.{IsHead, columns_of, has_all, step_under};
 
 use crate::error::TableError;
 use csv::ByteRecord;

@@ -10,7 +10,7 @@ ghost use Rattle.lus_test.specs.Tests.{HasTested, told_of};
 use crate::error::TableError;
 use crate::finding::{Finding, Outputs, find, places_of};
 use crate::running::replies_to;
-use crate::table::{read_head, read_steps, refuse_empty};
+use crate::table::{read_head, read_steps};
 use csv::ByteRecord;
 use lus_live_instance::lus_machine::{NodeId, Program, Reply, Request};
 use lus_records::all_columns;
@@ -42,20 +42,17 @@ pub(crate) fn outputs_of(alloc: Global, program: &Arc<Program>, node: NodeId) ->
     }
 }
 
-/// Tries a node on a table, whose first record is its head and whose others are the rows: an instant each, with its inputs and with the
-/// outputs that are expected.
+/// Tries a node on a table of a head and rows: an instant each, with its inputs and with the outputs that are expected.
 pub fn test(
     alloc: Global,
     program: &Arc<Program>,
     node: NodeId,
-    records: &[ByteRecord],
+    first: &ByteRecord,
+    rows: &[ByteRecord],
 ) -> Result<Tested, TableError>
     requires { node.0 < length (program_of (arc_value program.now)).nodes }
-    ensures { IfOk result (λ t. HasTested (program_of (arc_value program.now)) node.0 (map fields_of records.now) t.replies.items t.finding) }
+    ensures { IfOk result (λ t. HasTested (program_of (arc_value program.now)) node.0 (fields_of first.now) (map fields_of rows.now) t.replies.items t.finding) }
 {
-    let Some((first, rows)) = records.split_first() else {
-        return Err(refuse_empty(alloc, program, node));
-    };
     let head = read_head(alloc, program, node, first)?;
     let steps = read_steps(alloc, program, node, &head, rows)?;
     let replies = replies_to(alloc, program, node, &steps)?;
