@@ -63,7 +63,7 @@ pub fn named_files<'w>(
 /// Whether a tool's own line of a fault of a file or a journal doesn't say which it is: `lus_format` names each file itself, and `lus_lsp` has
 /// none.
 pub fn names_none(tool: &str) -> bool {
-    matches!(tool, "lus_explain" | "lus_draw" | "lus_audit" | "lus_live")
+    !matches!(tool, "lus_format" | "lus_lsp")
 }
 
 fn tell_unopened<F: Sink>(tool: &str, name: &str, faults: &mut F) {

@@ -1,6 +1,6 @@
 //! `lus --check PROGRAM` and `lus PROGRAM SCRIPTS`. By the name of another tool, through a link, the same program is that tool:
 //! `lus_explain`, `lus_format`, `lus_draw`, `lus_audit`, `lus_live`, with `--many` the host of many instances and the audit of their log,
-//! `lus_lsp`, and `lus_bench`, which `bench/run` measures.
+//! `lus_test`, `lus_lsp`, and `lus_bench`, which `bench/run` measures.
 #![tactic(auto)]
 
 mod files;
@@ -152,6 +152,7 @@ fn run<O: Sink, F: Sink>(
         "lus_live" if is_many(words) => live_many(rt, words, output, faults),
         "lus_audit" => lus_audit::command(rt.alloc(), &disk, words, output, faults),
         "lus_live" => live(rt, words, output, faults),
+        "lus_test" => lus_test::command(rt.alloc(), &disk, words, output, faults),
         "lus_lsp" => {
             let mut input = Buffered::new(Input(rt.stdin()));
             lus_lsp::command(rt.alloc(), words, &mut input, output, faults)

@@ -86,6 +86,22 @@ Status: 0 all lines were calls, 1 the program is rejected, 2 a line is none, or 
 3 and 4 as lus.
 ";
 
+const TEST: &str = "usage: lus_test [--node NODE] PROGRAM TABLE..
+       lus_test --write [--node NODE] PROGRAM TABLE
+
+Tries a node on tables of comma-separated values: the first line names inputs and outputs, and
+each row is an instant, with its inputs and the outputs that are expected. An empty cell is an
+absent input, or asks nothing of an output; a dash asks that it is absent. Says of each TABLE
+that it passes, or which output of which row is the first that is another, with the rows before
+it. The node is what the name of TABLE has before its first dot, or
+
+  --node NODE  this one
+  --write      prints the table with the outputs that come in the place of those expected
+
+Status: 0 passed, 1 not passed, or the program is rejected, 2 a table isn't right, or has no
+node, 3 a file or the output fails, 4 out of memory; of several tables the greatest.
+";
+
 const LSP: &str = "usage: lus_lsp --stdio
 
 A language server, which an editor starts: it reads messages of the Language Server Protocol
@@ -105,6 +121,7 @@ fn usage_of(tool: &str) -> Option<&'static str> {
         "lus_draw" => Some(DRAW),
         "lus_audit" => Some(AUDIT),
         "lus_live" => Some(LIVE),
+        "lus_test" => Some(TEST),
         "lus_lsp" => Some(LSP),
         _ => None,
     }
