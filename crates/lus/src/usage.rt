@@ -75,8 +75,7 @@ journal's entry of each, by the caller NAME or `user`, before it reads the next;
 reply as JSON. With --csv it reads inputs as CSV below a line of their names, and writes outputs
 so. It goes on behind JOURNAL, replayed first: `lus_live PROGRAM NODE log < calls >> log`, also
 after any kill; with --json it writes each entry to JOURNAL itself, and then the reply, as with
---many to LOG, with --sync once LOG is synced. With --many a line is INSTANCE CALLER CALL, or
-without LOG an entry to replay.
+--many to LOG, with --sync to its disk. A line of --many is INSTANCE CALLER CALL, or an old entry.
 
   [18, 19, 22]                 a step with the inputs in their order, null for an absent one
   {\"inputs\": {\"low\": 19, ..}}  a step with the inputs by their names
