@@ -1,5 +1,5 @@
 -- Names that are a head are that head.
-use Rattle.std.proofs.Common.{◌≡◌, ◌∙◌, refl, sym, Bool, true, false, List, [], ◌∷◌, Option, Some, None, option_map, if◌then◌else◌}
+use Rattle.std.proofs.Common.{◌≡◌, ◌∙◌, refl, Result, Ok, Err, IfOk, Bool, true, false, List, [], ◌∷◌, Option, Some, None, option_map, if◌then◌else◌}
 use Rattle.std.specs.Prelude.{option_and_then}
 use Rattle.lus_values.specs.Names.{Text}
 use Rattle.lus_scripts.specs.Forms.{both, each}
@@ -27,3 +27,8 @@ of_known names h (Some t) known is = one_of (all_distinct t) t h is ∙ known t 
 
 pub head_names : (columns names h : List Text) → Some h ≡ head_of columns names → h ≡ names
 head_names columns names h is = of_known names h (each (known columns) names) (each_known columns names) is
+
+-- what holds of a value by two facts of it
+pub by_both : {A E : Type 0} (r : Result A E) (P Q R : A → Type 0) → ((x : A) → P x → Q x → R x) → IfOk r P → IfOk r Q → IfOk r R
+by_both (Ok x) P Q R f p q = f x p q
+by_both (Err e) P Q R f p q = tt

@@ -75,11 +75,18 @@ impl Outputs<'_> {
     }
 }
 
-/// The place of the column of a name.
+/// The place of the first of these columns that has a name.
 fn place_among(columns: &[String], name: &[u8]) -> Option<usize>
     ensures { result ≡ position (λ c. bytes_eq name.now (string_bytes c)) columns.now }
 {
     columns.iter().position(|column| name == column.as_bytes())
+}
+
+/// The place of the column of a name.
+fn column_of(columns: &[String], name: &[u8]) -> Option<usize>
+    ensures { result ≡ place_of (map string_bytes columns.now) name.now }
+{
+    place_among(columns, name)
 }
 
 /// Of each name of a head the place of the column among these that it names.
@@ -93,7 +100,7 @@ pub(crate) fn places_of(
     let names = cells_of(alloc, head)?;
     let mut places = Vec::new(alloc);
     for name in &names {
-        places.push(place_among(columns, *name))?;
+        places.push(column_of(columns, *name))?;
     }
     Ok(places)
 }

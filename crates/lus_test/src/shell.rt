@@ -1,6 +1,6 @@
 //! The command line over a folder.
 
-ghost use Rattle.std.specs.Prelude.{◌≡◌, IfOk, Some, false, map, option_map, string_bytes, true, unwrap_or};
+ghost use Rattle.std.specs.Prelude.{◌≡◌, ◌<◌, IfOk, Some, false, length, map, option_map, string_bytes, true};
 ghost use Rattle.std.specs.Arc.{arc_value};
 ghost use Rattle.std.specs.List.{All};
 ghost use Rattle.csv.specs.Records.{fields_of};
@@ -61,8 +61,9 @@ fn no_node(alloc: Global, program: &Program, name: &str) -> Result<String, Memor
 }
 
 /// The node of a name.
-fn find_node(alloc: Global, program: &Program, name: &str) -> Result<NodeId, Problem>
-    ensures { IfOk result (λ node. node_named (program_of program.now) name.now ≡ Some node.0) }
+fn find_node(alloc: Global, program: &Arc<Program>, name: &str) -> Result<NodeId, Problem>
+    ensures named { IfOk result (λ node. node_named (program_of (arc_value program.now)) name.now ≡ Some node.0) }
+    ensures within { IfOk result (λ node. node.0 < length (program_of (arc_value program.now)).nodes) }
 {
     match program.node(name) {
         Some(node) => Ok(node),
@@ -226,6 +227,14 @@ fn try_table<D: Folder, O: Sink, F: Sink>(
     }
 }
 
+/// The greater of two statuses.
+fn greater(one: u8, other: u8) -> u8
+    ensures one { result ≡ 0 → one ≡ 0 }
+    ensures other { result ≡ 0 → other ≡ 0 }
+{
+    if other > one { other } else { one }
+}
+
 /// Tries tables: the greatest status of all.
 fn try_all<D: Folder, O: Sink, F: Sink>(
     alloc: Global,
@@ -245,9 +254,7 @@ fn try_all<D: Folder, O: Sink, F: Sink>(
         let own = try_table(
             alloc, folder, program, node, *file, is_written, output, faults,
         );
-        if own > status {
-            status = own;
-        }
+        status = greater(status, own);
     }
     status
 }

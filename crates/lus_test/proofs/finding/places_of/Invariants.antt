@@ -5,4 +5,4 @@ use Rattle.lus_test.proofs.finding.places_of.Given as goal
 
 abbrev pub invariant-loop-name : goal.invariant-loop-name
 invariant-loop-name l =
-    l.places.items ≡ map (place_of (map string_bytes l.columns)) (map (λ t. t.now) (take l.name-index l.names.items))
+    l.places.items ≡ map (place_of (map string_bytes l.columns)) (map (λ t. t.now) (take l.name-index l.name-items))
