@@ -10,4 +10,4 @@ pub loop-file-preserved : goal.loop-file-preserved
 loop-file-preserved g c = λ zero plain.
     all_more (TablePasses (g.D.Folder.known c.args.folder.now) (program_of (arc_value c.args.program.now)) (option_map (λ name. name.now) c.args.node))
     (λ (t : Bor (List ℕ)). t.now) c.args.files.now c.loop-file.file-index _ (omega arith)
-    (c.loop-file.invariant (c.greater.ensures.one zero) plain) (c.try_table.ensures (c.greater.ensures.other zero) plain)
+    (c.loop-file.invariant (c.greater-status.ensures.one zero) plain) (c.try_table-own.ensures (c.greater-status.ensures.other zero) plain)
