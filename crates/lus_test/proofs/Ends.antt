@@ -1,5 +1,5 @@
 -- When all tables pass.
-use Rattle.std.proofs.Common.{◌≡◌, ◌∙◌, ◌<◌, ◌≤◌, ◌+◌, ℕ, refl, sym, subst, ap, List, [], ◌∷◌, length, take, Option, Some, None, arith}
+use Rattle.std.proofs.Common.{◌≡◌, ◌∙◌, ◌≤◌, ◌+◌, ℕ, refl, sym, subst, ap, List, ◌∷◌, length, take, Option, Some, None, arith}
 use Rattle.std.proofs.lemmas.List.{length-take, take_all}
 use Rattle.lus_values.specs.Names.{Text}
 use Rattle.lus_program.specs.Programs.{Program}

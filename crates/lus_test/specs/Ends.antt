@@ -1,5 +1,5 @@
 -- When the command ends with status 0.
-use Rattle.std.specs.Prelude.{◌≡◌, ℕ, false, List, [], Option, Some, None, unwrap_or, ⊤}
+use Rattle.std.specs.Prelude.{◌≡◌, ℕ, false, [], Option, Some, None, unwrap_or, ⊤}
 use Rattle.std.specs.List.{All}
 use Rattle.lus_program.specs.Programs.{Program}
 use Rattle.lus_devices.specs.Folders.{Known, WithFile}

@@ -1,5 +1,5 @@
 -- What is found of a table: that each output is the one that is expected, or the first that isn't.
-use Rattle.std.specs.Prelude.{◌≡◌, ◌+◌, ◌||◌, ℕ, Bool, true, List, [], ◌∷◌, map, slice_get, Option, Some, None, codes, unwrap_or, if◌then◌else◌}
+use Rattle.std.specs.Prelude.{◌+◌, ◌||◌, ℕ, Bool, true, List, [], ◌∷◌, map, slice_get, Option, Some, None, codes, unwrap_or, if◌then◌else◌}
 use Rattle.std.specs.Str.{bytes_eq}
 use Rattle.lus_values.specs.Names.{Names, Text}
 use Rattle.lus_program.specs.Programs.{Program, Variable}

@@ -1,5 +1,5 @@
 -- The bytes that were read are all of the file's, since they are no more than a table may have.
-use Rattle.std.proofs.Common.{◌≡◌, ◌≤◌, arith, length, map, subst}
+use Rattle.std.proofs.Common.{◌≤◌, arith, length, map, subst}
 use Rattle.csv.specs.Records.{fields_of}
 use Rattle.lus_test.specs.Tables.{AreRecordsOf}
 use Rattle.lus_test.proofs.Ends.{records_file}

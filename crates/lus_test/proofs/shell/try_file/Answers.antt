@@ -1,5 +1,5 @@
 -- A table that is tried and passes is that of the file.
-use Rattle.std.proofs.Common.{rules, ◌≡◌, ◌∷◌, arith, map}
+use Rattle.std.proofs.Common.{◌≡◌, ◌∷◌, arith, map}
 use Rattle.std.proofs.lemmas.Grind.{common_steps}
 use Rattle.std.proofs.lemmas.Result.{IfOk-weaker}
 use Rattle.std.specs.Arc.{arc_value}
