@@ -17,22 +17,22 @@ fn with_zeros(number: i64, zeros: i64) -> Option<i64> {
     Some(product)
 }
 
-/// The number that digits of a base spell.
-fn in_base(digits: &str, base: u32) -> Option<i64> {
-    i64::from_str_radix(digits, base).ok()
+/// The number that decimal digits spell.
+fn decimal(digits: &str) -> Option<i64> {
+    i64::from_str_radix(digits, 10).ok()
 }
 
 /// The number that digits in small letters spell, behind the sign of their base or before a power of ten.
 fn spelt(text: &str) -> Option<i64> {
     if let Some(digits) = text.strip_prefix("0x") {
-        return in_base(digits, 16);
+        return i64::from_str_radix(digits, 16).ok();
     }
     if let Some(digits) = text.strip_prefix("0b") {
-        return in_base(digits, 2);
+        return i64::from_str_radix(digits, 2).ok();
     }
     match text.split_once('e') {
-        Some((digits, zeros)) => with_zeros(in_base(digits, 10)?, in_base(zeros, 10)?),
-        None => in_base(text, 10),
+        Some((digits, zeros)) => with_zeros(decimal(digits)?, decimal(zeros)?),
+        None => decimal(text),
     }
 }
 
