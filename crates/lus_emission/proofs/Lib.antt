@@ -10,6 +10,7 @@ pub mod Giving
 pub mod Keeping
 pub mod Layout
 pub mod OnClocks
+pub mod Ordered
 pub mod Rooms
 pub mod Segments
 pub mod Standing
