@@ -115,9 +115,9 @@ module _ (k : PlainClass) where
       → Stored vs ns r (exec others vs calls code 0 (ns, r))
 
 -- cells are laid out: so many are a class's own, and behind them stand those of its calls, which are apart
-pub record AreLaidOut (own cells : ℕ) (qs : List Call) : Type 0 where
-  pub own : own ≤ cells
-  pub behind : Each (λ q. own ≤ q.cells) qs
+pub record AreLaidOut (first cells : ℕ) (qs : List Call) : Type 0 where
+  pub own : first ≤ cells
+  pub behind : Each (λ q. first ≤ q.cells) qs
   pub within : Each (λ q. q.cells + q.length ≤ cells) qs
   pub apart : (i j : ℕ) (p q : Call) → slice_get qs i ≡ Some p → slice_get qs j ≡ Some q → (i ≡ j → ⊥)
       → (p.cells + p.length ≤ q.cells) ⊎ (q.cells + q.length ≤ p.cells)
