@@ -26,7 +26,7 @@ use Rattle.lus_orders.specs.Orders.{Board, Calls, Next, is_first, obey, on_row}
 use Rattle.lus_orders.specs.Classes.{passed}
 use Rattle.lus_orders.specs.Looks.{looks}
 use Rattle.lus_orders.specs.Made.{AreCallsOf, FitsClass, IsCallOf}
-use Rattle.lus_orders.specs.Segments.{AreLaidOut, GivesRow, GivesSteps, IsCodeOf, MakesCall, TargetOf, Segment, Stored, Stores, calls, gives, own_cells, own_flags, taken}
+use Rattle.lus_orders.specs.Segments.{AreLaidOut, GivesRow, GivesSteps, IsCodeOf, MakesCall, TargetOf, Stores, calls, gives}
 
 abbrev pub zero_int : ℤ
 zero_int = pos 0
