@@ -1,4 +1,5 @@
 pub mod Adding
+pub mod Apart
 pub mod Belonging
 pub mod CallOrders
 pub mod Emitted
@@ -8,7 +9,6 @@ pub mod Framed
 pub mod Given
 pub mod Giving
 pub mod Keeping
-pub mod Layout
 pub mod OnClocks
 pub mod Ordered
 pub mod Rooms
