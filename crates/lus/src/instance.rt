@@ -163,7 +163,7 @@ fn counted(extract: Extract) -> Result<Extract, Memory> {
 }
 
 /// Reads a log, and keeps the journal of an instance. There is none where a read failed.
-fn extract<S: Source + Drop>(
+fn read_log<S: Source + Drop>(
     alloc: Global,
     asked: &Asked<'_>,
     log: S,
@@ -297,7 +297,7 @@ pub fn draw_instance<R: Files, O: Sink, F: Sink>(
     let Ok(log) = disk.open(asked.log) else {
         return tell(faults, Fault::File);
     };
-    match extract(alloc, &asked, log) {
+    match read_log(alloc, &asked, log) {
         Ok(Some(extract)) if extract.lines.len() < 2 => {
             tell_unknown(alloc, &asked, extract.near, faults);
             tell(faults, Fault::Scripts(ScriptRefusal::Unknown))
