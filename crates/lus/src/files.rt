@@ -27,12 +27,12 @@ fn is_unopened<R: Files>(rt: &R, name: &str) -> bool {
 
 /// Whether a word is an option of a tool for people, which the word behind it is the value of.
 fn takes_word(tool: &str, word: &str) -> bool {
-    match arguments_of(tool) {
-        Some(arguments) => arguments
-            .split(' ')
-            .any(|argument| argument.strip_suffix("=") == Some(word)),
-        None => false,
+    for argument in arguments_of(tool).unwrap_or("").split(' ') {
+        if argument.strip_suffix("=") == Some(word) {
+            return true;
+        }
     }
+    false
 }
 
 /// The words that name files. No flag does, nor what stands behind one that takes a word, nor `-`, nor the second word of `lus_live`, of

@@ -58,11 +58,9 @@ fn mistake_in(
     arguments: &str,
     words: &[String],
 ) -> Result<String, AllocError> {
-    let mut command = bare(alloc, tool);
-    for argument in ["--help", "--version"]
-        .into_iter()
-        .chain(arguments.split(' '))
-    {
+    let help = with_flag(alloc, bare(alloc, tool), "help")?;
+    let mut command = with_flag(alloc, help, "version")?;
+    for argument in arguments.split(' ') {
         command = with_argument(alloc, command, argument)?;
     }
     match command.try_get_matches_from(words) {
@@ -80,6 +78,14 @@ fn tell_line<F: Sink>(alloc: Global, tool: &str, text: &str, faults: &mut F) {
     }
 }
 
+/// Says of a tool what clap says of a mistake in a line, where that helps here.
+fn tell_mistake<F: Sink>(alloc: Global, tool: &str, line: &str, faults: &mut F) {
+    let text = line.strip_prefix("error: ").unwrap_or(line).trim();
+    if !text.is_empty() && !text.starts_with(AS_VALUE) {
+        tell_line(alloc, tool, text, faults);
+    }
+}
+
 /// Says which of the words behind a tool's name is wrong and what is near it, and where its arguments are told.
 pub fn explain_words<F: Sink>(alloc: Global, tool: &str, words: &[String], faults: &mut F) {
     let Some(arguments) = arguments_of(tool) else {
@@ -93,14 +99,11 @@ pub fn explain_words<F: Sink>(alloc: Global, tool: &str, words: &[String], fault
         tell_line(alloc, tool, together, faults);
     }
     // (the usage that follows is clap's own, which says less than that of `--help`)
-    for line in mistake
-        .lines()
-        .take_while(|line| !line.starts_with("Usage: "))
-    {
-        let text = line.strip_prefix("error: ").unwrap_or(line).trim();
-        if !text.is_empty() && !text.starts_with(AS_VALUE) {
-            tell_line(alloc, tool, text, faults);
+    for line in mistake.lines() {
+        if line.starts_with("Usage: ") {
+            break;
         }
+        tell_mistake(alloc, tool, line, faults);
     }
     for piece in [tool, ": see `", tool, " --help`\n"] {
         let _ = write_all(faults, piece.as_bytes());
@@ -124,6 +127,12 @@ fn value_behind<'w>(words: &'w [String], option: &str) -> Option<&'w str> {
     None
 }
 
+fn tell_no_variable<F: Sink>(alloc: Global, tool: &str, name: &str, faults: &mut F) {
+    if let Ok(text) = format!(in alloc; "a node there has no variable `{name}`") {
+        tell_line(alloc, tool, text.as_str(), faults);
+    }
+}
+
 /// Names the signal at a place among those that are asked for.
 pub fn explain_signal<F: Sink>(
     alloc: Global,
@@ -135,12 +144,12 @@ pub fn explain_signal<F: Sink>(
     let Ok(place) = place.parse::<usize>() else {
         return;
     };
-    let names = value_behind(words, "--signals").unwrap_or("").split(',');
-    let Some(name) = names.skip(place.saturating_sub(1)).next() else {
-        return;
-    };
-    if let Ok(text) = format!(in alloc; "a node there has no variable `{name}`") {
-        tell_line(alloc, tool, text.as_str(), faults);
+    let mut at = 1usize;
+    for name in value_behind(words, "--signals").unwrap_or("").split(',') {
+        if at == place {
+            tell_no_variable(alloc, tool, name, faults);
+        }
+        at = at.saturating_add(1);
     }
 }
 
