@@ -8,7 +8,7 @@ TOP = Path(__file__).resolve().parents[2]
 # A program that isn't proved may check memory as it runs, and would hold back what is freed; a proved one reads nothing of this.
 BARE = {"ASAN_OPTIONS": "detect_leaks=0:quarantine_size_mb=0:thread_local_quarantine_size_kb=0"}
 LIMIT = 600.0  # seconds of any run, also on a slow and busy machine
-TOOLS = ["lus_explain", "lus_format", "lus_draw", "lus_audit", "lus_live", "lus_lsp"]
+TOOLS = ["lus_explain", "lus_format", "lus_draw", "lus_audit", "lus_live", "lus_test", "lus_lsp"]
 
 
 class Check:

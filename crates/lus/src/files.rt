@@ -1,5 +1,7 @@
 //! The files that the words of a tool for people name, and which it couldn't open.
 
+use crate::instance::names_instance;
+use crate::mistaken::arguments_of;
 use lus_devices::{Sink, write_all};
 use lus_many::is_many;
 use std::alloc::{AllocError, Global};
@@ -23,16 +25,18 @@ fn is_unopened<R: Files>(rt: &R, name: &str) -> bool {
     }
 }
 
-/// Whether what stands behind this word is no name of a file.
-fn takes_word(word: &str) -> bool {
-    matches!(
-        word,
-        "--script" | "--caller" | "--signals" | "--from" | "--to"
-    )
+/// Whether a word is an option of a tool for people, which the word behind it is the value of.
+fn takes_word(tool: &str, word: &str) -> bool {
+    for argument in arguments_of(tool).unwrap_or("").split(' ') {
+        if argument.strip_suffix("=") == Some(word) {
+            return true;
+        }
+    }
+    false
 }
 
-/// The words that name files. No flag does, nor what stands behind one that takes a word, nor `-`, nor the second word of `lus_live`, or of
-/// `lus_audit --many`, that is no flag: a node's name.
+/// The words that name files. No flag does, nor what stands behind one that takes a word, nor `-`, nor the second word of `lus_live`, of
+/// `lus_audit --many` or of `lus_draw --instance`, that is no flag: a node's name.
 pub fn named_files<'w>(
     alloc: Global,
     tool: &str,
@@ -41,7 +45,7 @@ pub fn named_files<'w>(
     let mut found = Vec::new(alloc);
     let mut count = 0usize;
     let mut is_taken = false;
-    let has_node = tool == "lus_live" || is_many(words);
+    let has_node = tool == "lus_live" || is_many(words) || names_instance(words);
     for word in words {
         let name = word.as_str();
         if !is_taken && !name.starts_with("-") {
@@ -51,17 +55,26 @@ pub fn named_files<'w>(
                 found.push(name)?;
             }
         }
-        is_taken = takes_word(name);
+        is_taken = takes_word(tool, name);
     }
     Ok(found)
 }
 
-/// Whether more may be said than a tool's own line of a fault: `lus` has its specified line alone, and `lus_format` names the file itself.
-pub fn is_for_people(tool: &str) -> bool {
-    matches!(tool, "lus_explain" | "lus_draw" | "lus_audit" | "lus_live")
+/// Whether a tool's own line of a fault of a file or a journal doesn't say which it is: `lus_format` names each file itself, and `lus_lsp` has
+/// none.
+pub fn names_none(tool: &str) -> bool {
+    !matches!(tool, "lus_format" | "lus_lsp")
 }
 
-/// Says which file a tool for people couldn't open, behind the line of its fault: the last of those that its words name.
+fn tell_unopened<F: Sink>(tool: &str, name: &str, faults: &mut F) {
+    let end = "`, or it can't be opened\n";
+    for text in [tool, ": there is no file `", name, end] {
+        let _ = write_all(faults, text.as_bytes());
+    }
+}
+
+/// Says which file a tool for people couldn't open, behind the line of its fault: the first of those that its words name, in whose
+/// order files are opened.
 pub fn name_unopened<R: Files, F: Sink>(
     rt: &R,
     alloc: Global,
@@ -72,20 +85,10 @@ pub fn name_unopened<R: Files, F: Sink>(
     let Ok(files) = named_files(alloc, tool, words) else {
         return;
     };
-    let mut unopened = None;
     for name in &files {
         if is_unopened(rt, name) {
-            unopened = Some(*name);
-        }
-    }
-    if let Some(name) = unopened {
-        for text in [
-            tool,
-            ": there is no file `",
-            name,
-            "`, or it can't be opened\n",
-        ] {
-            let _ = write_all(faults, text.as_bytes());
+            tell_unopened(tool, name, faults);
+            return;
         }
     }
 }

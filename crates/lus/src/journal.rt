@@ -2,6 +2,7 @@
 
 ghost use Rattle.std.specs.Prelude.{None, ⊤};
 
+use lus_bursts::Syncs;
 use lus_devices::{Failure, Sink};
 use lus_live::Log;
 use std::fs::{File, OpenOptions, TryLockError};
@@ -39,6 +40,17 @@ impl Sink for JournalFile<'_> {
     fn write(&mut self, piece: &[u8]) -> Result<usize, Failure> {
         match &mut self.file {
             Some(file) => file.write(piece).map_err(|_| Failure),
+            None => Err(Failure),
+        }
+    }
+}
+
+impl Syncs for JournalFile<'_> {
+    ghost syncs = { λ _ _. ⊤ };
+
+    fn sync(&mut self) -> Result<(), Failure> {
+        match &self.file {
+            Some(file) => file.sync_data().map_err(|_| Failure),
             None => Err(Failure),
         }
     }

@@ -1,18 +1,23 @@
 //! `lus --check PROGRAM` and `lus PROGRAM SCRIPTS`. By the name of another tool, through a link, the same program is that tool:
 //! `lus_explain`, `lus_format`, `lus_draw`, `lus_audit`, `lus_live`, with `--many` the host of many instances and the audit of their log,
-//! `lus_lsp`, and `lus_bench`, which `bench/run` measures.
+//! `lus_test`, `lus_lsp`, and `lus_bench`, which `bench/run` measures.
 #![tactic(auto)]
 
 mod files;
+mod instance;
 mod journal;
+mod mistaken;
 mod sections;
 mod usage;
 mod wrong_line;
 
-use crate::files::{is_for_people, name_unopened};
+use crate::files::{name_unopened, names_none};
+use crate::instance::{draw_instance, names_instance};
 use crate::journal::JournalFile;
-use crate::usage::introduce;
-use crate::wrong_line::{Told, explain_line};
+use crate::mistaken::{arguments_of, explain_order, explain_signal, explain_words};
+use crate::usage::{introduce, was_introduced};
+use crate::wrong_line::{Told, explain_line, journal_line};
+use lus_bursts::{Counted, Waiting};
 use lus_cli::{Fault, command, tell};
 use lus_devices::{Disk, Input, Output, Sink, write_all};
 use lus_lines::Buffered;
@@ -21,6 +26,7 @@ use std::collections::hash_map::RandomState;
 use std::env;
 use std::io::ErrorKind;
 use std::process::ExitCode;
+use std::str::from_utf8;
 
 /// The status of a file that couldn't be read, or an output that couldn't be written.
 const FILE_FAILED: u8 = 3;
@@ -82,13 +88,18 @@ fn live_many<O: Sink, F: Sink>(
     let Ok(keys) = RandomState::new(rt) else {
         return tell(faults, Fault::File);
     };
-    let mut lines = Buffered::new(Input(rt.stdin()));
+    let waiting = Waiting::new();
+    let mut lines = Buffered::new(Counted {
+        waiting: &waiting,
+        source: Input(rt.stdin()),
+    });
     let mut log = JournalFile::new(rt);
     let status = lus_many::command(
         rt.alloc(),
         &Disk(rt),
         words,
         keys,
+        &waiting,
         &mut lines,
         &mut log,
         output,
@@ -135,11 +146,13 @@ fn run<O: Sink, F: Sink>(
             let mut input = Input(rt.stdin());
             lus_formatter::command(rt.alloc(), &disk, words, &mut input, output, faults)
         }
+        "lus_draw" if names_instance(words) => draw_instance(rt, rt.alloc(), words, output, faults),
         "lus_draw" => lus_draw::command(rt.alloc(), &disk, words, output, faults),
         "lus_audit" if is_many(words) => audit_many(rt, words, output, faults),
         "lus_live" if is_many(words) => live_many(rt, words, output, faults),
         "lus_audit" => lus_audit::command(rt.alloc(), &disk, words, output, faults),
         "lus_live" => live(rt, words, output, faults),
+        "lus_test" => lus_test::command(rt.alloc(), &disk, words, output, faults),
         "lus_lsp" => {
             let mut input = Buffered::new(Input(rt.stdin()));
             lus_lsp::command(rt.alloc(), words, &mut input, output, faults)
@@ -149,7 +162,26 @@ fn run<O: Sink, F: Sink>(
     Some(status)
 }
 
-/// The same, of a tool of which more is said behind the line of a fault: which file it is, and what is wrong with the line of a journal.
+/// Says behind the line of a fault more of it: which argument, file or signal it is of, or what is wrong with the line of a journal.
+fn explain_fault<F: Sink>(
+    rt: &HostRuntime,
+    tool: &str,
+    words: &[String],
+    fault: &str,
+    faults: &mut F,
+) {
+    if fault == "error words" && !was_introduced(tool, words) {
+        explain_words(rt.alloc(), tool, words, faults);
+    } else if fault.starts_with("error E") {
+        explain_order(rt, rt.alloc(), tool, words, faults);
+    } else if let Some(place) = fault.strip_prefix("error signal ") {
+        explain_signal(rt.alloc(), tool, words, place, faults);
+    } else if let Some(number) = journal_line(fault.as_bytes()) {
+        explain_line(rt, rt.alloc(), tool, words, number, faults);
+    }
+}
+
+/// The same as `run`, of a tool for people, which says more of a fault.
 fn run_for_people<O: Sink, F: Sink>(
     rt: &HostRuntime,
     tool: &str,
@@ -159,14 +191,11 @@ fn run_for_people<O: Sink, F: Sink>(
 ) -> Option<u8> {
     let mut told = Told::new(rt.alloc(), faults);
     let status = run(rt, tool, words, output, &mut told);
-    let line = told.journal_line();
-    drop(told);
-    if status == Some(FILE_FAILED) {
+    let fault = told.fault();
+    if status == Some(FILE_FAILED) && names_none(tool) {
         name_unopened(rt, rt.alloc(), tool, words, faults);
     }
-    if let Some(number) = line {
-        explain_line(rt, rt.alloc(), tool, words, number, faults);
-    }
+    explain_fault(rt, tool, words, from_utf8(&fault).unwrap_or(""), faults);
     status
 }
 
@@ -181,7 +210,7 @@ fn main(rt: HostRuntime) -> ExitCode {
     if let Some(status) = introduce(tool, words, &mut output, &mut faults) {
         return ExitCode::from(status);
     }
-    let status = if is_for_people(tool) {
+    let status = if arguments_of(tool).is_some() {
         run_for_people(&rt, tool, words, &mut output, &mut faults)
     } else {
         run(&rt, tool, words, &mut output, &mut faults)

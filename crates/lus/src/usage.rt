@@ -36,6 +36,7 @@ A rejected file stays as it is. Status: 0 done, 1 a file is rejected, or would c
 
 const DRAW: &str = "usage: lus_draw [--html | --waves | --csv | --vcd] [--from N] [--to N]
                 [--all | --signals NAMES] PROGRAM JOURNAL
+       lus_draw --instance NAME [..] PROGRAM NODE LOG
        lus_draw --html JOURNAL
 
 Draws journals that lus or lus_live wrote, if they are valid: as a chronogram, or
@@ -47,7 +48,8 @@ Draws journals that lus or lus_live wrote, if they are valid: as a chronogram, o
   --all      with the node's locals; --signals a,f.c,f#2.*: these, c and all of calls of the node f
 
 --from and --to draw the instants from the N-th to the N-th alone, not with --html or --vcd.
-Without PROGRAM a page shows the journal's lines. Status: 0 drawn, 1 to 4 as lus.
+--instance draws one of the instances of NODE in a log of `lus_live --many`. Without PROGRAM a page
+shows the journal's lines. Status: 0 drawn, 1 to 4 as lus.
 ";
 
 const AUDIT: &str = "usage: lus_audit [--why] PROGRAM JOURNAL
@@ -66,14 +68,14 @@ Status: 0 valid, 1 the program is rejected, 2 a wrong line, or no journal,
 ";
 
 const LIVE: &str = "usage: lus_live [--json | --csv] [--caller NAME] PROGRAM NODE [JOURNAL]
-       lus_live --many [--json] PROGRAM NODE [[--caller NAME] LOG]
+       lus_live --many [--json] PROGRAM NODE [[--caller NAME] [--sync] LOG]
 
 Runs a node in a pipe: reads calls from standard input, a line of JSON each, and writes the
 journal's entry of each, by the caller NAME or `user`, before it reads the next; with --json its
 reply as JSON. With --csv it reads inputs as CSV below a line of their names, and writes outputs
 so. It goes on behind JOURNAL, replayed first: `lus_live PROGRAM NODE log < calls >> log`, also
 after any kill; with --json it writes each entry to JOURNAL itself, and then the reply, as with
---many to LOG. With --many a line is INSTANCE CALLER CALL, or without LOG an entry to replay.
+--many to LOG, with --sync to its disk. A line of --many is INSTANCE CALLER CALL, or an old entry.
 
   [18, 19, 22]                 a step with the inputs in their order, null for an absent one
   {\"inputs\": {\"low\": 19, ..}}  a step with the inputs by their names
@@ -81,6 +83,22 @@ after any kill; with --json it writes each entry to JOURNAL itself, and then the
 
 Status: 0 all lines were calls, 1 the program is rejected, 2 a line is none, or an entry is wrong,
 3 and 4 as lus.
+";
+
+const TEST: &str = "usage: lus_test [--node NODE] PROGRAM TABLE..
+       lus_test --write [--node NODE] PROGRAM TABLE
+
+Tries a node on tables of comma-separated values: the first line names inputs and outputs, and
+each row is an instant, with its inputs and the outputs that are expected. An empty cell is an
+absent input, or asks nothing of an output; a dash asks that it is absent. Says of each TABLE
+that it passes, or which output of which row is the first that is another, with the rows before
+it. The node is what the name of TABLE has before its first dot, or
+
+  --node NODE  this one
+  --write      prints the table with the outputs that come in the place of those expected
+
+Status: 0 passed, 1 not passed, or the program is rejected, 2 a table isn't right, or has no
+node, 3 a file or the output fails, 4 out of memory; of several tables the greatest.
 ";
 
 const LSP: &str = "usage: lus_lsp --stdio
@@ -102,6 +120,7 @@ fn usage_of(tool: &str) -> Option<&'static str> {
         "lus_draw" => Some(DRAW),
         "lus_audit" => Some(AUDIT),
         "lus_live" => Some(LIVE),
+        "lus_test" => Some(TEST),
         "lus_lsp" => Some(LSP),
         _ => None,
     }
@@ -109,6 +128,15 @@ fn usage_of(tool: &str) -> Option<&'static str> {
 
 const NUMBERS: &str =
     "lus_explain: the numbers are E1 to E11 and S1 to S6, and there is `warnings`\n";
+
+/// Whether `introduce` has said already how a tool is used: that there are no arguments, or which numbers there are.
+pub fn was_introduced(tool: &str, words: &[String]) -> bool {
+    match words {
+        [] => true,
+        [flag, _number] => tool == "lus_explain" && flag.as_str() == "--error",
+        _ => false,
+    }
+}
 
 /// The section of docs/ERRORS.md that `--error NUMBER` asks for. Where there is none, it is said beside the faults which there are.
 fn section_asked<F: Sink>(tool: &str, words: &[String], faults: &mut F) -> Option<&'static str> {

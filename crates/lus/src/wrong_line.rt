@@ -3,6 +3,7 @@
 ghost use Rattle.std.specs.Prelude.{None};
 
 use crate::files::{named_files, opens};
+use crate::instance::names_instance;
 use lus_devices::{Disk, Failure, Folder, Sink, write_all};
 use lus_lines::{Buffered, read_whole_line};
 use lus_many::is_many;
@@ -28,14 +29,20 @@ impl<'o, O: Sink> Told<'o, O> {
         }
     }
 
-    /// The number of the line of a journal that the last fault is of, if it is of one.
-    pub fn journal_line(&self) -> Option<u64> {
-        let line = from_utf8(&self.line).ok()?;
-        let number = line
-            .strip_prefix("error journal line ")?
-            .strip_suffix('\n')?;
-        number.parse::<u64>().ok()
+    /// The line of the last fault, without its line feed.
+    pub fn fault(self) -> Vec<u8> {
+        let mut line = self.line;
+        if line.ends_with(b"\n") {
+            let _ = line.pop();
+        }
+        line
     }
+}
+
+/// The number of the line of a journal that a fault is of, if it is of one.
+pub fn journal_line(fault: &[u8]) -> Option<u64> {
+    let number = from_utf8(fault).ok()?.strip_prefix("error journal line ")?;
+    number.parse::<u64>().ok()
 }
 
 impl<O: Sink> Sink for Told<'_, O> {
@@ -56,7 +63,7 @@ impl<O: Sink> Sink for Told<'_, O> {
 }
 
 /// Reads the line of this number in a file.
-fn read_line<D: Folder>(folder: &D, name: &str, number: u64, line: &mut Vec<u8>) -> Option<()> {
+pub fn read_line<D: Folder>(folder: &D, name: &str, number: u64, line: &mut Vec<u8>) -> Option<()> {
     let mut source = Buffered::new(folder.open(name).ok()?);
     for _line in 0..number {
         read_whole_line(&mut source, line).ok()?;
@@ -159,7 +166,7 @@ fn reason<D: Folder>(
 }
 
 /// What an audit reports of a reply that isn't the right one: the line that is written and the right one.
-fn replies<D: Folder>(alloc: Global, folder: &D, files: &[&str]) -> Option<String> {
+pub fn replies<D: Folder>(alloc: Global, folder: &D, files: &[&str]) -> Option<String> {
     let mut words = Vec::new(alloc);
     for file in files {
         words.push(String::from_str(alloc, file).ok()?).ok()?;
@@ -202,7 +209,8 @@ pub fn explain_line<R: Files, F: Sink>(
         return;
     };
     let is_read = files.last().is_some_and(|journal| opens(rt, journal));
-    if !is_read || (tool == "lus_live" && (number == 1 || is_many(words))) {
+    let is_said = names_instance(words) || (tool == "lus_live" && (number == 1 || is_many(words)));
+    if !is_read || is_said {
         return;
     }
     if let Some(text) = said(alloc, &Disk(rt), tool, &files, is_many(words), number) {

@@ -19,7 +19,7 @@ fn of_tree(
     refusal: &Refusal,
 ) -> Result<Option<Finding>, AllocError> {
     match refusal.number {
-        RefusalNumber::Name => name_cause(alloc, &tree, refusal),
+        RefusalNumber::Name => name_cause(alloc, source, &tree, refusal),
         RefusalNumber::Type => type_cause(alloc, source, tree),
         RefusalNumber::Clock => clock_cause(alloc, source, &tree, refusal),
         RefusalNumber::Nil => nil_cause(alloc, source, &tree, refusal),
@@ -69,9 +69,11 @@ fn may_drop(number: RefusalNumber) -> &'static [&'static str] {
     }
 }
 
-/// The operators that it may put in: those of branches, of clocks, of first values, and of memories.
+/// The operators that it may put in: those of what other languages have built in, of branches, of clocks, of first values, and of
+/// memories.
 fn may_add(number: RefusalNumber) -> &'static [&'static str] {
     match number {
+        RefusalNumber::Name => &["if", "<", "then", "-", "else", "when", "not"],
         RefusalNumber::Type | RefusalNumber::Nil => &["->"],
         RefusalNumber::Clock => &["when", "not", "merge", "->"],
         RefusalNumber::Cycle => &["pre", "->"],

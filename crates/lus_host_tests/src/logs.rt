@@ -1,5 +1,6 @@
 //! A log in memory: it is written, is audited, and is the input of another run.
 
+use lus_hosting::lus_bursts::Waiting;
 use lus_hosting::lus_live_instance::Score;
 use lus_hosting::lus_live_instance::lus_machine::compile;
 use lus_hosting::{LogLines, audit_log, host_behind, host_log, logs_are_joined, recover_log};
@@ -12,7 +13,7 @@ const PROGRAM: &str = "node sum(a: int) returns (y: int); let y = a + (0 -> pre 
 const CALLS: &str = "k x [2]\nl x [3]\nk y [4]\nk y oops\n";
 
 const LOG: &str =
-    "k 1 x step(2) -> (2)\nl 1 x step(3) -> (3)\nk 2 y step(4) -> (6)\nk # y it is no value of JSON\n";
+    "k 1 x step(2) -> (2)\nl 1 x step(3) -> (3)\nk 2 y step(4) -> (6)\nk # y it is no value of JSON: unexpected `oops` at column 1\n";
 
 const WRONG: &str = "k 1 x step(2) -> (2)\nl 1 x step(3) -> (5)\n";
 
@@ -129,6 +130,8 @@ fn a_log_is_gone_on_in(rt: HostRuntime) -> Result<(), Fail> {
         recovered,
         Some("z"),
         &teller,
+        true,
+        &Waiting::new(),
         &mut calls,
         &mut log,
         &mut output,
@@ -139,7 +142,8 @@ fn a_log_is_gone_on_in(rt: HostRuntime) -> Result<(), Fail> {
     };
     assert_eq!(rt; hosted, Ok(score));
     assert_eq!(rt; log.as_slice(), MORE.as_bytes());
-    let answers = "k 2 z step(4) -> (6)\nk # z it is no value of JSON\n";
+    let answers =
+        "k 2 z step(4) -> (6)\nk # z it is no value of JSON: unexpected `z` at column 3\n";
     assert_eq!(rt; output.as_slice(), answers.as_bytes());
     logs_are_joined();
     Ok(())

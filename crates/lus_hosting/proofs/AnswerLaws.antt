@@ -1,5 +1,5 @@
 -- What becomes of a line is a turn, of which all is written, or a part.
-use Rattle.std.proofs.Common.{◌≡◌, ◌∙◌, ◌==◌, ◌&&◌, ◌+◌, ◌++◌, ◌<◌, ℕ, zero, suc, true, not, refl, ap, ap₂, sym, subst, inl, inr, List, [], ◌∷◌, length, take, Option, Some, None, append_assoc, append-nil, arith, codes, nat_le, nat_lt, IsUtf8}
+use Rattle.std.proofs.Common.{◌≡◌, ◌∙◌, ◌==◌, ◌&&◌, ◌++◌, ◌<◌, ℕ, zero, suc, true, not, refl, ap, ap₂, sym, subst, inl, inr, List, [], ◌∷◌, length, take, Option, Some, None, append_assoc, append-nil, arith, codes, nat_le, nat_lt, IsUtf8}
 use Rattle.std.specs.List.{list_all}
 use Rattle.std.proofs.lemmas.Bool.{and_parts, true≢false}
 use Rattle.indexmap.specs.IndexMap.{get_by_text}

@@ -4,6 +4,7 @@ use Rattle.std.specs.Borrow.{Bor}
 use Rattle.lus_values.specs.Names.{Text}
 use Rattle.lus_program.specs.Programs.{Program}
 use Rattle.lus_devices.specs.Devices.{Bytes, WritesBeginning, with_front, with_text}
+use Rattle.lus_bursts.specs.Syncs.{Safety}
 use Rattle.lus_lines.specs.Lines.{IsLast, IsPlain, IsWholeLine, most_line_bytes}
 use Rattle.lus_play.specs.Plays.{HasWhole, ended, with_tail}
 use Rattle.lus_play.specs.declared.error.PlayError.{PlayError}
@@ -189,6 +190,20 @@ module _ (reads : Reads) (p : Program) (f : ℕ) (j s : Spelling) (before : List
     pub logged : WritesBeginning l l' kept
     pub wrote : WritesBeginning w w' written
     pub ahead : IsAhead log read l l' w w'
+
+  -- Of lines that were read the first are answered, of their answers a beginning is written, and the log was synced once it had the lines of
+  -- their entries.
+  pub record AreSafe (is_safe : Safety) (left l l' w w' : Option Bytes) : Type 0 where
+    pub told : List Logged
+    pub denied : ℕ
+    pub read : Bytes
+    pub later : Option Bytes
+    pub kept : Bytes
+    pub written : Bytes
+    pub turns : Turns told denied read kept written
+    pub were : left ≡ with_front read later
+    pub safe : is_safe l kept l'
+    pub replied : WritesBeginning w w' written
 
 -- ---- why a run stops
 

@@ -1,6 +1,6 @@
 //! A node of a program, whose instances are hosted.
 
-ghost use Rattle.std.specs.Prelude.{◌≡◌, ◌<◌, IfOk, length};
+ghost use Rattle.std.specs.Prelude.{◌≡◌, ◌<◌, IfOk, length, string_bytes};
 ghost use Rattle.std.specs.Arc.{arc_value};
 ghost use Rattle.lus_lines.specs.Lines.{IsPlain};
 ghost use Rattle.lus_live_instance.specs.MachineSpecs.CodeSpecs.Codes.{program_of};
@@ -37,9 +37,9 @@ pub(crate) fn read_call(host: Host<'_>, call: &str) -> Result<Option<Request>, M
     calls.read(call.as_bytes())
 }
 
-/// Why a text is no call.
-pub(crate) fn no_call(host: Host<'_>, call: &str) -> &'static str
-    ensures { IsPlain result.now }
+/// What is wrong with a text that is no call.
+pub(crate) fn no_call(host: Host<'_>, call: &str) -> Result<String, Memory>
+    ensures { IfOk result (λ t. IsPlain (string_bytes t)) }
 {
     let calls = JsonCalls {
         alloc: host.alloc,
@@ -47,5 +47,5 @@ pub(crate) fn no_call(host: Host<'_>, call: &str) -> &'static str
         names: host.program.names(),
         node: host.node,
     };
-    calls.reason(call.as_bytes())
+    calls.culprit(call.as_bytes())
 }

@@ -1,23 +1,26 @@
 //! Hosting many instances.
 
-ghost use Rattle.std.specs.Prelude.{◌≡◌, ◌<◌, [], None, IfErr, IfOk, List, OnErr, OnOk, length, option_map, string_bytes};
+ghost use Rattle.std.specs.Prelude.{◌≡◌, ◌<◌, [], None, Some, IfErr, IfOk, List, OnErr, OnOk, length, option_map, string_bytes, true, ⊤};
 ghost use Rattle.std.specs.Arc.{arc_value};
+ghost use Rattle.lus_bursts.specs.Syncs.{IsSafe};
 ghost use Rattle.lus_devices.specs.Devices.{WritesBeginning, with_text};
 ghost use Rattle.lus_live_instance.specs.MachineSpecs.CodeSpecs.Codes.{program_of};
 ghost use Rattle.lus_live_instance.specs.MachineSpecs.Constructors.{names_of};
 ghost use Rattle.lus_hosting.specs.Hosts.{Keeps, ReadsTurn, TurnFails, WritesSome, WritesTurn};
 ghost use Rattle.lus_hosting.specs.Logs.{Logged};
 ghost use Rattle.lus_hosting.specs.Spellings.{log_spelling, no_spelling};
-ghost use Rattle.lus_hosting.specs.Turns.{HasHosted, HasHostedSome, StopsBy, calls, everything, reads_seen};
+ghost use Rattle.lus_hosting.specs.Turns.{AreSafe, HasHosted, HasHostedSome, StopsBy, calls, everything, reads_seen};
 
 use crate::error::HostError;
 use crate::host::Host;
 use crate::instances::Instances;
 use crate::recovering::Recovered;
+use crate::settling::{are_due, hold, settle};
 use crate::telling::{LogLines, Silent, Tells};
 use crate::turns::{Kind, Texts, answer, answer_long, clear};
 use crate::words::Lines;
 use indexmap::IndexMap;
+use lus_bursts::{Syncs, Waiting};
 use lus_devices::{Failure, Sink, Source, write_all};
 use lus_lines::{Reading, read_line};
 use lus_live_instance::Score;
@@ -70,23 +73,19 @@ fn write_text<O: Sink>(output: &mut O, text: &str) -> Result<(), PlayError>
     }
 }
 
-/// Writes an entry in the log, and then its answer.
-fn write_texts<L: Sink, O: Sink>(
-    texts: &Texts,
-    log: &mut L,
-    output: &mut O,
-) -> Result<(), PlayError>
+/// Writes an entry in the log, and holds its answer.
+fn write_entry<L: Sink>(texts: &Texts, log: &mut L, held: &mut Vec<u8>) -> Result<(), PlayError>
     ensures whole { OnOk result ((L.written log.new ≡ with_text (L.written log.old) (string_bytes texts.now.entry))
-        × (O.written output.new ≡ with_text (O.written output.old) (string_bytes texts.now.answer))) }
+        × (Some held.new.items ≡ with_text (Some held.old.items) (string_bytes texts.now.answer))) }
     ensures some { OnErr result (WritesSome (string_bytes texts.now.entry) (string_bytes texts.now.answer)
-        (L.written log.old) (L.written log.new) (O.written output.old) (O.written output.new)) }
+        (L.written log.old) (L.written log.new) None None) }
 {
     write_text(log, texts.entry.as_str())?;
-    write_text(output, texts.answer.as_str())
+    hold(held, texts.answer.as_str())
 }
 
-/// Reads a line, and writes what becomes of it: its entry, and then its answer.
-fn take_turn<J: Tells, T: Tells, S: Source, L: Sink, O: Sink>(
+/// Reads a line, and writes its entry. What is to be answered is held.
+fn take_turn<J: Tells, T: Tells, S: Source, L: Sink>(
     host: Host<'_>,
     instances: &mut Instances,
     lines: Lines<'_>,
@@ -94,7 +93,7 @@ fn take_turn<J: Tells, T: Tells, S: Source, L: Sink, O: Sink>(
     teller: &T,
     input: &mut S,
     log: &mut L,
-    output: &mut O,
+    held: &mut Vec<u8>,
     line: &mut Vec<u8>,
     texts: &mut Texts,
     right: &mut String,
@@ -103,27 +102,29 @@ fn take_turn<J: Tells, T: Tells, S: Source, L: Sink, O: Sink>(
     ensures ok { (before : List Logged) → Keeps (program_of (arc_value host.entry.program.now)) host.entry.node.0 before instances.old
         → IfOk result (λ kind. WritesTurn kind (reads_seen lines.entry) (program_of (arc_value host.entry.program.now)) host.entry.node.0
         (J.spelling scribe.now) (T.spelling teller.now) before (S.left input.old) (S.left input.new)
-        (L.written log.old) (L.written log.new) (O.written output.old) (O.written output.new) instances.new) }
+        (L.written log.old) (L.written log.new) (Some held.old.items) (Some held.new.items) instances.new) }
     ensures err { (before : List Logged) → Keeps (program_of (arc_value host.entry.program.now)) host.entry.node.0 before instances.old
         → OnErr result (TurnFails (reads_seen lines.entry) (program_of (arc_value host.entry.program.now)) host.entry.node.0
         (J.spelling scribe.now) (T.spelling teller.now) before (S.left input.old)
-        (L.written log.old) (L.written log.new) (O.written output.old) (O.written output.new)) }
+        (L.written log.old) (L.written log.new) None None) }
 {
     let kind = read_turn(
         host, instances, lines, scribe, teller, input, line, texts, right,
     )?;
-    write_texts(texts, log, output)?;
+    write_entry(texts, log, held)?;
     Ok(kind)
 }
 
 /// Takes each line on the instances, behind the entries that they have. What is kept is the instances, one line and its entry, however many
-/// there were.
-fn host_lines<J: Tells, T: Tells, S: Source, L: Sink, O: Sink>(
+/// there were, and where the log is synced the answers to the lines that were read ahead.
+fn host_lines<J: Tells, T: Tells, S: Source, L: Syncs, O: Sink>(
     host: Host<'_>,
     instances: &mut Instances,
     lines: Lines<'_>,
     scribe: &J,
     teller: &T,
+    is_synced: bool,
+    waiting: &Waiting,
     input: &mut S,
     log: &mut L,
     output: &mut O,
@@ -139,6 +140,10 @@ fn host_lines<J: Tells, T: Tells, S: Source, L: Sink, O: Sink>(
         → OnErr result (HasHostedSome (reads_seen lines.entry) (program_of (arc_value host.entry.program.now)) host.entry.node.0
         (J.spelling scribe.now) (T.spelling teller.now) before (S.left input.old)
         (L.written log.old) (L.written log.new) (O.written output.old) (O.written output.new)) }
+    ensures safe { (before : List Logged) → Keeps (program_of (arc_value host.entry.program.now)) host.entry.node.0 before instances.old
+        → is_synced ≡ true → AreSafe (reads_seen lines.entry) (program_of (arc_value host.entry.program.now)) host.entry.node.0
+        (J.spelling scribe.now) (T.spelling teller.now) before (IsSafe L L.syncs L.written) (S.left input.old)
+        (L.written log.old) (L.written log.new) (O.written output.old) (O.written output.new) }
     ensures stops { (before : List Logged) → Keeps (program_of (arc_value host.entry.program.now)) host.entry.node.0 before instances.old
         → IfErr result (StopsBy (reads_seen lines.entry)) }
 {
@@ -146,12 +151,16 @@ fn host_lines<J: Tells, T: Tells, S: Source, L: Sink, O: Sink>(
         entry: String::new(host.alloc),
         answer: String::new(host.alloc),
     };
+    let mut held = Vec::new(host.alloc);
     let mut entered = 0u64;
     let mut refused = 0u64;
     for turn in 0..u64::MAX {
-        match take_turn(
-            host, instances, lines, scribe, teller, input, log, output, line, &mut texts, right,
-        )? {
+        let kind = take_turn(
+            host, instances, lines, scribe, teller, input, log, &mut held, line, &mut texts, right,
+        )?;
+        let is_due = are_due(kind, is_synced, waiting);
+        settle(is_due, is_synced, log, output, &mut held)?;
+        match kind {
             Kind::Called => entered += 1,
             Kind::Replayed => entered += 1,
             Kind::Noted => {}
@@ -171,6 +180,14 @@ fn host_lines<J: Tells, T: Tells, S: Source, L: Sink, O: Sink>(
 /// Takes all, and keeps nothing.
 #[derive(Drop)]
 struct Nowhere;
+
+impl Syncs for Nowhere {
+    ghost syncs = { λ _ _. ⊤ };
+
+    fn sync(&mut self) -> Result<(), Failure> {
+        Ok(())
+    }
+}
 
 impl Sink for Nowhere {
     ghost written = { λ _. None };
@@ -220,6 +237,8 @@ pub fn host_many<T: Tells, S: Source, O: Sink>(
         Lines::All,
         &silent,
         teller,
+        false,
+        &Waiting::new(),
         input,
         &mut nowhere,
         output,
@@ -257,15 +276,18 @@ pub fn host_log<S: Source, O: Sink>(
 }
 
 /// Goes on in a log behind what was recovered of it: makes the call of each line on the instance that it names, of the caller that it names
-/// or of this one, and answers it once the line of its entry is whole in the log. A line that is no call enters nothing, and is answered
-/// with the reason: no line ends the run.
-pub fn host_behind<T: Tells, S: Source, L: Sink, O: Sink>(
+/// or of this one, and answers it once the line of its entry is whole in the log, and where that is synced once it was synced with it: once
+/// for all calls whose lines wait, that is, were read ahead. A line that is no call enters nothing, and is answered with the reason: no line
+/// ends the run.
+pub fn host_behind<T: Tells, S: Source, L: Syncs, O: Sink>(
     alloc: Global,
     program: &Arc<Program>,
     node: NodeId,
     recovered: Recovered,
     caller: Option<&str>,
     teller: &T,
+    is_synced: bool,
+    waiting: &Waiting,
     input: &mut S,
     log: &mut L,
     output: &mut O,
@@ -279,6 +301,10 @@ pub fn host_behind<T: Tells, S: Source, L: Sink, O: Sink>(
         → OnErr result (HasHostedSome (calls (option_map (λ t. t.now) caller.entry)) (program_of (arc_value program.now)) node.0
         (log_spelling (names_of (program_of (arc_value program.now)))) (T.spelling teller.now) before
         (S.left input.old) (L.written log.old) (L.written log.new) (O.written output.old) (O.written output.new)) }
+    ensures safe { (before : List Logged) → Keeps (program_of (arc_value program.now)) node.0 before recovered.instances
+        → is_synced ≡ true → AreSafe (calls (option_map (λ t. t.now) caller.entry)) (program_of (arc_value program.now)) node.0
+        (log_spelling (names_of (program_of (arc_value program.now)))) (T.spelling teller.now) before (IsSafe L L.syncs L.written)
+        (S.left input.old) (L.written log.old) (L.written log.new) (O.written output.old) (O.written output.new) }
     ensures lasts { (before : List Logged) → Keeps (program_of (arc_value program.now)) node.0 before recovered.instances
         → IfErr result (StopsBy (calls (option_map (λ t. t.now) caller.entry))) }
 {
@@ -298,6 +324,8 @@ pub fn host_behind<T: Tells, S: Source, L: Sink, O: Sink>(
         Lines::Calls(caller),
         &scribe,
         teller,
+        is_synced,
+        waiting,
         input,
         log,
         output,

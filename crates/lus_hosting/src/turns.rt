@@ -129,7 +129,10 @@ fn answer_call<J: Tells, T: Tells>(
             tell_entry(scribe, teller, (instance, caller), number, &entry, texts)?;
             Ok(Kind::Called)
         }
-        None => deny(teller, instance, caller, no_call(host, call), texts),
+        None => {
+            let reason = no_call(host, call)?;
+            deny(teller, instance, caller, reason.as_str(), texts)
+        }
     }
 }
 

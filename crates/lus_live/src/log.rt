@@ -2,10 +2,11 @@
 
 ghost use Rattle.std.specs.Prelude.{◌≡◌, OnOk};
 
-use lus_devices::{Failure, Sink};
+use lus_bursts::Syncs;
+use lus_devices::Failure;
 
 /// A file of a journal, once it is opened: what it takes comes behind what the file has.
-pub trait Log: Sink {
+pub trait Log: Syncs {
     ghost use Rattle.std.specs.Prelude.{ℕ, List};
 
     // It was this, and was opened by this name.

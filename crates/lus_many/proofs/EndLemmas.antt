@@ -3,12 +3,13 @@ use Rattle.std.proofs.Common.{◌≡◌, ◌∙◌, ℕ, Bool, true, false, ap, 
 use Rattle.lus_program.specs.Programs.{Program}
 use Rattle.lus_devices.specs.Devices.{Bytes}
 use Rattle.lus_devices.specs.Folders.{Holds, Known}
+use Rattle.lus_bursts.specs.Syncs.{Safety}
 use Rattle.lus_hosting.specs.LiveSpecs.MachineSpecs.Constructors.{names_of}
 use Rattle.lus_hosting.specs.Logs.{Logged}
 use Rattle.lus_hosting.specs.Recoveries.{HasRecovered}
 use Rattle.lus_hosting.specs.Recoveries.{IsRecovered as IsReplayed}
 use Rattle.lus_hosting.specs.Spellings.{Spelling, log_spelling, no_spelling}
-use Rattle.lus_hosting.specs.Turns.{HasHosted, HasHostedSome, Reads, StopsBy, calls, everything}
+use Rattle.lus_hosting.specs.Turns.{AreSafe, HasHosted, HasHostedSome, Reads, StopsBy, calls, everything}
 use Rattle.lus_hosting.specs.declared.recovering.Recovered.{Recovered}
 use Rattle.lus_cli.specs.Changes.{Change, change}
 use Rattle.lus_cli.specs.CommandLine.{Text}
@@ -58,12 +59,16 @@ recovered_file p f known left ahead r holds same replayed =
     )
 
 -- where the log's device was this before it was opened and its end was cut
-pub gone_on : (p : Program) (f : ℕ) (known : Known) (readies : Option ℕ → ℕ → Type 0) (is_json : Bool) (session : Session) (left end : Option Bytes) (log : Change)
-    (l : Option Bytes) (ran : Ran) (output : Change) (r : Recovered) → l ≡ log.old → (recovered : IsRecovered known p f r) → readies r.cut r.bytes
+pub gone_on : (p : Program) (f : ℕ) (known : Known) (readies : Option ℕ → ℕ → Type 0) (is_safe : Safety) (is_json : Bool) (session : Session)
+    (left end : Option Bytes) (log : Change) (l : Option Bytes) (ran : Ran) (output : Change) (r : Recovered) → l ≡ log.old
+    → (recovered : IsRecovered known p f r) → readies r.cut r.bytes
     → IfOk ran (λ score. HasHosted (calls session.caller) p f (log_spelling (names_of p)) (spelling_of is_json p f) recovered.0 left end l log.new output.old output.new score)
     → OnErr ran (HasHostedSome (calls session.caller) p f (log_spelling (names_of p)) (spelling_of is_json p f) recovered.0 left l log.new output.old output.new)
-    → IfErr ran (StopsBy (calls session.caller)) → HasGoneOn known readies is_json session p f left end log ran output
-gone_on p f known readies is_json session left end log l ran output r same recovered readied all begun lasts = record {
+    → IfErr ran (StopsBy (calls session.caller))
+    → (session.is_synced ≡ true
+    → AreSafe (calls session.caller) p f (log_spelling (names_of p)) (spelling_of is_json p f) recovered.0 is_safe left l log.new output.old output.new)
+    → HasGoneOn known readies is_safe is_json session p f left end log ran output
+gone_on p f known readies is_safe is_json session left end log l ran output r same recovered readied all begun lasts safe = record {
   recovered = r;
   before = recovered.0;
   replayed = recovered.1;
@@ -72,6 +77,7 @@ gone_on p f known readies is_json session left end log l ran output r same recov
       (subst (λ k. IfOk ran (λ score. HasHosted (calls session.caller) p f (log_spelling (names_of p)) (spelling_of is_json p f) recovered.0 left end k log.new output.old output.new score)) same all)
       (subst (λ k. OnErr ran (HasHostedSome (calls session.caller) p f (log_spelling (names_of p)) (spelling_of is_json p f) recovered.0 left k log.new output.old output.new)) same begun)
       lasts;
+  safe = λ is. subst (λ k. AreSafe (calls session.caller) p f (log_spelling (names_of p)) (spelling_of is_json p f) recovered.0 is_safe left k log.new output.old output.new) same (safe is);
 }
 
 -- nothing was cut, or what stood behind so many bytes
@@ -116,22 +122,22 @@ session_fails read_fails file name session f asks fault =
       | inr is ↦ subst (HostFails read_fails file name session) (sym is) asks
     ]
 
-module _ (read_fails : Known → Type 0) (known : Text → Known) (readies : Readies) (left end : Option Bytes) (log : Change) (asked : Asked) (p : Program)
-    (node : ℕ) (output : Change) (accepted : IsOfFile (known asked.program) p) (named : node_named p asked.node ≡ Some node) where
+module _ (read_fails : Known → Type 0) (known : Text → Known) (readies : Readies) (is_safe : Safety) (left end : Option Bytes) (log : Change) (asked : Asked)
+    (p : Program) (node : ℕ) (output : Change) (accepted : IsOfFile (known asked.program) p) (named : node_named p asked.node ≡ Some node) where
   -- with a log or without one
   pub task_ran : (session : Option Session) (ran : Ran) → asked.session ≡ session
-      → HasRunIn known readies asked.is_json session p node left end log ran output → TaskEnds read_fails known readies left end log asked (Ok ran) output
+      → HasRunIn known readies is_safe asked.is_json session p node left end log ran output → TaskEnds read_fails known readies is_safe left end log asked (Ok ran) output
   task_ran session ran is hosted = record {
     program = p;
     accepted = accepted;
     node = node;
     named = named;
-    hosted = subst (λ k. HasRunIn known readies asked.is_json k p node left end log ran output) (sym is) hosted;
+    hosted = subst (λ k. HasRunIn known readies is_safe asked.is_json k p node left end log ran output) (sym is) hosted;
   }
 
   pub task_goes : (session : Session) (result : Result Ran Fault) → asked.session ≡ Some session
-      → GoesOn (known session.log) (readies session.log) asked.is_json session p node left end log result output
-      → TaskEnds read_fails known readies left end log asked result output
+      → GoesOn (known session.log) (readies session.log) is_safe asked.is_json session p node left end log result output
+      → TaskEnds read_fails known readies is_safe left end log asked result output
   task_goes session (Ok ran) is goes = task_ran (Some session) ran is goes
   task_goes session (Err f) is goes = (
     session_fails read_fails (known asked.program) asked.node asked.session f

@@ -1,23 +1,24 @@
 -- What the words of the command line ask for, by the meaning that clap's own specification gives to the command.
-use Rattle.std.specs.Prelude.{Bool, List, Option, Some, None, option_map, codes, if◌then◌else◌}
+use Rattle.std.specs.Prelude.{Bool, true, false, List, Option, Some, None, option_map, codes, if◌then◌else◌}
 use Rattle.clap.specs.Words.{App, Row, first_of}
 use Rattle.lus_scripts.specs.Forms.{is_name}
 use Rattle.lus_cli.specs.CommandLine.{Text, asked_of, bare, is_set, with_flag, with_optional, with_required, with_value}
 use Rattle.lus_many.specs.declared.words.Session.{Session as StoredSession}
 use Rattle.lus_many.specs.declared.words.Task.{Task}
 
--- the flags `--many` and `--json`, and an option `--caller NAME`
+-- the flags `--many`, `--json` and `--sync`, and an option `--caller NAME`
 abbrev pub flagged : App
-flagged = with_value (codes "caller") (with_flag (codes "json") (with_flag (codes "many") (bare (codes "lus_live"))))
+flagged = with_value (codes "caller") (with_flag (codes "sync") (with_flag (codes "json") (with_flag (codes "many") (bare (codes "lus_live")))))
 
 -- these, a required PROGRAM, a required NODE, and perhaps a LOG
 abbrev pub the_command : App
 the_command = with_optional (codes "LOG") (with_required (codes "NODE") (with_required (codes "PROGRAM") flagged))
 
--- a log that is gone on in, by the name of its file, and perhaps the name of the one caller
+-- a log that is gone on in, by the name of its file, perhaps the name of the one caller, and whether the log is synced before answers
 pub record Session : Type 0 where
   pub log : Text
   pub caller : Option Text
+  pub is_synced : Bool
 
 -- a node of a program, whether answers are objects of JSON, and perhaps a log that is gone on in
 pub record Asked : Type 0 where
@@ -26,12 +27,17 @@ pub record Asked : Type 0 where
   pub is_json : Bool
   pub session : Option Session
 
--- a caller is named only beside a log
-abbrev pub session_of : Option Text → Option Text → Option (Option Session)
-session_of None None = Some None
-session_of None (Some caller) = None
-session_of (Some log) None = Some (Some (record { log = log; caller = None }))
-session_of (Some log) (Some caller) = if is_name caller then Some (Some (record { log = log; caller = Some caller })) else None
+-- the log of a file
+abbrev pub with_log : Bool → Text → Option Text → Option (Option Session)
+with_log is_synced log caller = Some (Some (record { log = log; caller = caller; is_synced = is_synced }))
+
+-- a caller is named, and syncs are asked for, only beside a log
+abbrev pub session_of : Bool → Option Text → Option Text → Option (Option Session)
+session_of false None None = Some None
+session_of true None None = None
+session_of is_synced None (Some caller) = None
+session_of is_synced (Some log) None = with_log is_synced log None
+session_of is_synced (Some log) (Some caller) = if is_name caller then with_log is_synced log (Some caller) else None
 
 abbrev pub with_session : Text → Text → Bool → Option Session → Asked
 with_session program node is_json session = record { program = program; node = node; is_json = is_json; session = session }
@@ -43,8 +49,8 @@ chosen is_json session (Some program) (Some node) = option_map (with_session pro
 
 abbrev pub said : List Row → Option Asked
 said m =
-    chosen (is_set (codes "json") m) (session_of (first_of (codes "LOG") m) (first_of (codes "caller") m)) (first_of (codes "PROGRAM") m)
-    (first_of (codes "NODE") m)
+    chosen (is_set (codes "json") m) (session_of (is_set (codes "sync") m) (first_of (codes "LOG") m) (first_of (codes "caller") m))
+    (first_of (codes "PROGRAM") m) (first_of (codes "NODE") m)
 
 -- what the words after the program's own name ask for, where they are well formed
 unfoldable pub asked : List Text → Option Asked
@@ -52,7 +58,7 @@ asked = asked_of the_command said
 
 -- a log that is gone on in as plain data
 abbrev pub session_seen : StoredSession → Session
-session_seen k = record { log = k.log.now; caller = option_map (λ t. t.now) k.caller }
+session_seen k = record { log = k.log.now; caller = option_map (λ t. t.now) k.caller; is_synced = k.is_synced }
 
 abbrev pub sessions_seen : Option StoredSession → Option Session
 sessions_seen session = option_map session_seen session

@@ -3,6 +3,7 @@ use Rattle.std.specs.Prelude.{◌≡◌, ◌⊎◌, ℕ, Bool, true, false, List
 use Rattle.lus_program.specs.Programs.{Program}
 use Rattle.lus_devices.specs.Devices.{Bytes}
 use Rattle.lus_devices.specs.Folders.{Known, WithFile}
+use Rattle.lus_bursts.specs.Syncs.{Safety}
 use Rattle.lus_scripts.specs.declared.refusal.ScriptRefusal.TheVariants as scripts
 use Rattle.lus_hosting.specs.LiveSpecs.MachineSpecs.Constructors.{names_of}
 use Rattle.lus_hosting.specs.LiveSpecs.PlaySpecs.declared.playing.Score.{Score}
@@ -10,7 +11,7 @@ use Rattle.lus_hosting.specs.Hosts.{Keeps}
 use Rattle.lus_hosting.specs.Logs.{Logged}
 use Rattle.lus_hosting.specs.Recoveries.{HasRecovered}
 use Rattle.lus_hosting.specs.Spellings.{Spelling, log_spelling, no_spelling}
-use Rattle.lus_hosting.specs.Turns.{HasHosted, HasHostedSome, Reads, StopsBy, calls, everything}
+use Rattle.lus_hosting.specs.Turns.{AreSafe, HasHosted, HasHostedSome, Reads, StopsBy, calls, everything}
 use Rattle.lus_hosting.specs.declared.error.HostError.{HostError}
 use Rattle.lus_hosting.specs.declared.error.HostError.TheVariants as hosts
 use Rattle.lus_hosting.specs.declared.recovering.Recovered.{Recovered}
@@ -72,29 +73,33 @@ pub record IsReadied (L : Type 0) (opens : L → Text → L → Type 0) (cuts : 
 abbrev pub Readies : Type 1
 Readies = Text → Option ℕ → ℕ → Type 0
 
--- behind the whole lines of a log, what stood behind which was cut, the input's calls were made
-pub record HasGoneOn (had : Known) (readies : Option ℕ → ℕ → Type 0) (is_json : Bool) (session : Session) (p : Program) (f : ℕ)
+-- Behind the whole lines of a log, what stood behind which was cut, the input's calls were made. Where syncs are asked for, each answer that
+-- is begun is to a call whose entry was in the log when that was synced.
+pub record HasGoneOn (had : Known) (readies : Option ℕ → ℕ → Type 0) (is_safe : Safety) (is_json : Bool) (session : Session) (p : Program) (f : ℕ)
     (left end : Option Bytes) (log : Change) (ran : Ran) (output : Change) : Type 0 where
   pub recovered : Recovered
   pub before : List Logged
   pub replayed : WithFile had (λ bytes. HasRecovered p f (Some bytes) before recovered)
   pub readied : readies recovered.cut recovered.bytes
   pub hosted : HostedOn (calls session.caller) (log_spelling (names_of p)) is_json p f before left end log ran output
+  pub safe : session.is_synced ≡ true
+      → AreSafe (calls session.caller) p f (log_spelling (names_of p)) (spelling_of is_json p f) before is_safe left log.old log.new output.old output.new
 
 -- with a log or without one
-abbrev pub HasRunIn : (Text → Known) → Readies → Bool → Option Session → Program → ℕ → Option Bytes → Option Bytes → Change → Ran → Change → Type 0
-HasRunIn known readies is_json None p f left end log ran output = Hosted is_json p f left end ran output
-HasRunIn known readies is_json (Some session) p f left end log ran output =
-    HasGoneOn (known session.log) (readies session.log) is_json session p f left end log ran output
+abbrev pub HasRunIn : (Text → Known) → Readies → Safety → Bool → Option Session → Program → ℕ → Option Bytes → Option Bytes → Change → Ran → Change
+    → Type 0
+HasRunIn known readies is_safe is_json None p f left end log ran output = Hosted is_json p f left end ran output
+HasRunIn known readies is_safe is_json (Some session) p f left end log ran output =
+    HasGoneOn (known session.log) (readies session.log) is_safe is_json session p f left end log ran output
 
 -- instances of the node of this name of a file's program were hosted
-pub record HasRun (known : Text → Known) (readies : Readies) (asked : Asked) (left end : Option Bytes) (log : Change) (ran : Ran)
+pub record HasRun (known : Text → Known) (readies : Readies) (is_safe : Safety) (asked : Asked) (left end : Option Bytes) (log : Change) (ran : Ran)
     (output : Change) : Type 0 where
   pub program : Program
   pub accepted : IsOfFile (known asked.program) program
   pub node : ℕ
   pub named : node_named program asked.node ≡ Some node
-  pub hosted : HasRunIn known readies asked.is_json asked.session program node left end log ran output
+  pub hosted : HasRunIn known readies is_safe asked.is_json asked.session program node left end log ran output
 
 -- a log is gone on in, of a node that the file has
 abbrev pub AsksSession : Known → Text → Option Session → Type 0
@@ -115,9 +120,10 @@ HostFails read_fails file name session faults.Output = AsksSession file name ses
 HostFails read_fails file name session faults.Start = ⊥
 
 -- instances are hosted, or no line is read and nothing is written
-abbrev pub TaskEnds : (Known → Type 0) → (Text → Known) → Readies → Option Bytes → Option Bytes → Change → Asked → Result Ran Fault → Change → Type 0
-TaskEnds read_fails known readies left end log asked (Ok ran) output = HasRun known readies asked left end log ran output
-TaskEnds read_fails known readies left end log asked (Err f) output =
+abbrev pub TaskEnds : (Known → Type 0) → (Text → Known) → Readies → Safety → Option Bytes → Option Bytes → Change → Asked → Result Ran Fault → Change
+    → Type 0
+TaskEnds read_fails known readies is_safe left end log asked (Ok ran) output = HasRun known readies is_safe asked left end log ran output
+TaskEnds read_fails known readies is_safe left end log asked (Err f) output =
     HostFails read_fails (known asked.program) asked.node asked.session f × (end ≡ left) × IsUntouched log × IsUntouched output
 
 -- without a log among the words the log's device is left alone
@@ -135,9 +141,10 @@ LogStays (Some asked) log = StaysIn asked.session log
 abbrev pub IsSessionFault : Fault → Type 0
 IsSessionFault e = IsRecoveryFault e ⊎ (e ≡ faults.Output)
 
-abbrev pub GoesOn : Known → (Option ℕ → ℕ → Type 0) → Bool → Session → Program → ℕ → Option Bytes → Option Bytes → Change → Result Ran Fault → Change → Type 0
-GoesOn had readies is_json session p f left end log (Ok ran) output = HasGoneOn had readies is_json session p f left end log ran output
-GoesOn had readies is_json session p f left end log (Err e) output = IsSessionFault e × (end ≡ left) × IsUntouched log × IsUntouched output
+abbrev pub GoesOn : Known → (Option ℕ → ℕ → Type 0) → Safety → Bool → Session → Program → ℕ → Option Bytes → Option Bytes → Change → Result Ran Fault
+    → Change → Type 0
+GoesOn had readies is_safe is_json session p f left end log (Ok ran) output = HasGoneOn had readies is_safe is_json session p f left end log ran output
+GoesOn had readies is_safe is_json session p f left end log (Err e) output = IsSessionFault e × (end ≡ left) × IsUntouched log × IsUntouched output
 
 -- ---- what is told
 
@@ -155,8 +162,8 @@ IsTold (Ok (Err e)) status faults = IsToldLast status (host_fault e) faults
 IsTold (Err f) status faults = IsToldAlone status f faults
 
 -- a host ends with an outcome of what was asked for, which is told
-pub record Ends (read_fails : Known → Type 0) (known : Text → Known) (readies : Readies) (asked : Option Asked) (left end : Option Bytes)
-    (log output faults : Change) (status : ℕ) : Type 0 where
+pub record Ends (read_fails : Known → Type 0) (known : Text → Known) (readies : Readies) (is_safe : Safety) (asked : Option Asked)
+    (left end : Option Bytes) (log output faults : Change) (status : ℕ) : Type 0 where
   pub outcome : Result Ran Fault
-  pub ends : AskedEnds (TaskEnds read_fails known readies left end log) asked outcome output
+  pub ends : AskedEnds (TaskEnds read_fails known readies is_safe left end log) asked outcome output
   pub told : IsTold outcome status faults

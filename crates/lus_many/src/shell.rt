@@ -1,7 +1,8 @@
 //! The command line over a folder and an input.
 
-ghost use Rattle.std.specs.Prelude.{◌≡◌, ◌<◌, [], None, IfErr, IfOk, List, OnErr, OnOk, Some, length, map, option_map, string_bytes};
+ghost use Rattle.std.specs.Prelude.{◌≡◌, ◌<◌, [], None, IfErr, IfOk, List, OnErr, OnOk, Some, length, map, option_map, string_bytes, true};
 ghost use Rattle.std.specs.Arc.{arc_value};
+ghost use Rattle.lus_bursts.specs.Syncs.{IsSafe};
 ghost use Rattle.lus_cli.specs.Changes.{IsUntouched, change};
 ghost use Rattle.lus_cli.specs.CodeSpecs.Codes.{program_of};
 ghost use Rattle.lus_cli.specs.Ends.{AskedEnds, ReadFails};
@@ -10,7 +11,7 @@ ghost use Rattle.lus_hosting.specs.LiveSpecs.MachineSpecs.Constructors.{names_of
 ghost use Rattle.lus_hosting.specs.Hosts.{Keeps};
 ghost use Rattle.lus_hosting.specs.Logs.{Logged};
 ghost use Rattle.lus_hosting.specs.Spellings.{log_spelling, no_spelling};
-ghost use Rattle.lus_hosting.specs.Turns.{HasHosted, HasHostedSome, StopsBy, calls, everything};
+ghost use Rattle.lus_hosting.specs.Turns.{AreSafe, HasHosted, HasHostedSome, StopsBy, calls, everything};
 ghost use Rattle.lus_live.specs.Ends.{IsRecoveryFault, recovery_fault};
 ghost use Rattle.lus_many.specs.CommandLine.{asked, session_seen, task_seen};
 ghost use Rattle.lus_many.specs.Ends.{CutsTail, Ends, GoesOn, IsReadied, IsRecovered, IsSessionFault, LogStays, TaskEnds, host_fault, spelling_of};
@@ -21,6 +22,7 @@ use crate::words::{Session, Task, read_words};
 use lus_cli::lus_host::ScriptRefusal;
 use lus_cli::{Fault, lines_status, read_program, tell, tell_nodes};
 use lus_devices::{Folder, Sink, Source};
+use lus_hosting::lus_bursts::{Syncs, Waiting};
 use lus_hosting::lus_live_instance::lus_machine::{NodeId, Program};
 use lus_hosting::lus_live_instance::{RecoveryError, Score};
 use lus_hosting::{HostError, LogLines, Recovered, host_behind, host_log, recover_log};
@@ -36,13 +38,14 @@ fn perform<D: Folder, S: Source, L: Log, O: Sink, F: Sink>(
     folder: &D,
     words: &[String],
     keys: RandomState,
+    waiting: &Waiting,
     input: &mut S,
     log: &mut L,
     output: &mut O,
     wrong: &mut Wrong,
     faults: &mut F,
 ) -> Result<Result<Score, HostError>, Fault>
-    ensures ends { AskedEnds (TaskEnds (ReadFails D.File D.File.left D.File.failures) (D.known folder.now) (IsReadied L L.opens L.cuts log.old)
+    ensures ends { AskedEnds (TaskEnds (ReadFails D.File D.File.left D.File.failures) (D.known folder.now) (IsReadied L L.opens L.cuts log.old) (IsSafe L L.syncs L.written)
         (S.left input.old) (S.left input.new)
         (change (L.written log.old) (L.written log.new) (L.failures log.old) (L.failures log.new))) (asked (map string_bytes words.now)) result
         (change (O.written output.old) (O.written output.new) (O.failures output.old) (O.failures output.new)) }
@@ -52,7 +55,9 @@ fn perform<D: Folder, S: Source, L: Log, O: Sink, F: Sink>(
         (change (F.written faults.old) (F.written faults.new) (F.failures faults.old) (F.failures faults.new))) }
 {
     let task = read_words(alloc, words)?;
-    host_on(alloc, folder, task, keys, input, log, output, wrong, faults)
+    host_on(
+        alloc, folder, task, keys, waiting, input, log, output, wrong, faults,
+    )
 }
 
 /// Hosts instances of the node that a task names.
@@ -61,13 +66,14 @@ fn host_on<D: Folder, S: Source, L: Log, O: Sink, F: Sink>(
     folder: &D,
     task: Task<'_>,
     keys: RandomState,
+    waiting: &Waiting,
     input: &mut S,
     log: &mut L,
     output: &mut O,
     wrong: &mut Wrong,
     faults: &mut F,
 ) -> Result<Result<Score, HostError>, Fault>
-    ensures ends { TaskEnds (ReadFails D.File D.File.left D.File.failures) (D.known folder.now) (IsReadied L L.opens L.cuts log.old)
+    ensures ends { TaskEnds (ReadFails D.File D.File.left D.File.failures) (D.known folder.now) (IsReadied L L.opens L.cuts log.old) (IsSafe L L.syncs L.written)
         (S.left input.old) (S.left input.new)
         (change (L.written log.old) (L.written log.new) (L.failures log.old) (L.failures log.new)) (task_seen task.entry) result
         (change (O.written output.old) (O.written output.new) (O.failures output.old) (O.failures output.new)) }
@@ -103,6 +109,7 @@ fn host_on<D: Folder, S: Source, L: Log, O: Sink, F: Sink>(
             task.is_json,
             session,
             keys,
+            waiting,
             input,
             log,
             output,
@@ -223,39 +230,51 @@ fn cut_tail<L: Log, F: Sink>(
 }
 
 /// Makes the calls of the input behind what was recovered of a log.
-fn host_session<S: Source, L: Sink, O: Sink>(
+fn host_session<S: Source, L: Syncs, O: Sink>(
     alloc: Global,
     program: &Arc<Program>,
     node: NodeId,
     is_json: bool,
     recovered: Recovered,
-    caller: Option<&str>,
+    session: Session<'_>,
+    waiting: &Waiting,
     input: &mut S,
     log: &mut L,
     output: &mut O,
 ) -> Result<Score, HostError>
     requires { node.0 < length (program_of (arc_value program.now)).nodes }
     ensures all { (before : List Logged) → Keeps (program_of (arc_value program.now)) node.0 before recovered.instances
-        → IfOk result (λ score. HasHosted (calls (option_map (λ t. t.now) caller.entry)) (program_of (arc_value program.now)) node.0
+        → IfOk result (λ score. HasHosted (calls (session_seen session.entry).caller) (program_of (arc_value program.now)) node.0
         (log_spelling (names_of (program_of (arc_value program.now)))) (spelling_of is_json (program_of (arc_value program.now)) node.0) before
         (S.left input.old) (S.left input.new) (L.written log.old) (L.written log.new) (O.written output.old) (O.written output.new) score) }
     ensures begun { (before : List Logged) → Keeps (program_of (arc_value program.now)) node.0 before recovered.instances
-        → OnErr result (HasHostedSome (calls (option_map (λ t. t.now) caller.entry)) (program_of (arc_value program.now)) node.0
+        → OnErr result (HasHostedSome (calls (session_seen session.entry).caller) (program_of (arc_value program.now)) node.0
         (log_spelling (names_of (program_of (arc_value program.now)))) (spelling_of is_json (program_of (arc_value program.now)) node.0) before
         (S.left input.old) (L.written log.old) (L.written log.new) (O.written output.old) (O.written output.new)) }
+    ensures safe { (before : List Logged) → Keeps (program_of (arc_value program.now)) node.0 before recovered.instances
+        → (session_seen session.entry).is_synced ≡ true → AreSafe (calls (session_seen session.entry).caller) (program_of (arc_value program.now)) node.0
+        (log_spelling (names_of (program_of (arc_value program.now)))) (spelling_of is_json (program_of (arc_value program.now)) node.0) before
+        (IsSafe L L.syncs L.written) (S.left input.old) (L.written log.old) (L.written log.new) (O.written output.old) (O.written output.new) }
     ensures lasts { (before : List Logged) → Keeps (program_of (arc_value program.now)) node.0 before recovered.instances
-        → IfErr result (StopsBy (calls (option_map (λ t. t.now) caller.entry))) }
+        → IfErr result (StopsBy (calls (session_seen session.entry).caller)) }
 {
+    let Session {
+        caller,
+        is_synced,
+        ..
+    } = session;
     if is_json {
         let teller = json_lines(alloc, program, node);
         host_behind(
-            alloc, program, node, recovered, caller, &teller, input, log, output,
+            alloc, program, node, recovered, caller, &teller, is_synced, waiting, input, log,
+            output,
         )
     } else {
         let names = program.names();
         let teller = LogLines { alloc, names };
         host_behind(
-            alloc, program, node, recovered, caller, &teller, input, log, output,
+            alloc, program, node, recovered, caller, &teller, is_synced, waiting, input, log,
+            output,
         )
     }
 }
@@ -269,13 +288,15 @@ fn go_on<D: Folder, S: Source, L: Log, O: Sink, F: Sink>(
     is_json: bool,
     session: Session<'_>,
     keys: RandomState,
+    waiting: &Waiting,
     input: &mut S,
     log: &mut L,
     output: &mut O,
     faults: &mut F,
 ) -> Result<Result<Score, HostError>, Fault>
     requires { node.0 < length (program_of (arc_value program.now)).nodes }
-    ensures ends { GoesOn (D.known folder.now session.entry.log.now) (IsReadied L L.opens L.cuts log.old session.entry.log.now) is_json
+    ensures ends { GoesOn (D.known folder.now session.entry.log.now) (IsReadied L L.opens L.cuts log.old session.entry.log.now)
+        (IsSafe L L.syncs L.written) is_json
         (session_seen session.entry) (program_of (arc_value program.now)) node.0 (S.left input.old) (S.left input.new)
         (change (L.written log.old) (L.written log.new) (L.failures log.old) (L.failures log.new)) result
         (change (O.written output.old) (O.written output.new) (O.failures output.old) (O.failures output.new)) }
@@ -289,15 +310,7 @@ fn go_on<D: Folder, S: Source, L: Log, O: Sink, F: Sink>(
     let recovered = recover_file(alloc, folder, program, node, keys, session.log, faults)?;
     cut_tail(log, &recovered, faults)?;
     Ok(host_session(
-        alloc,
-        program,
-        node,
-        is_json,
-        recovered,
-        session.caller,
-        input,
-        log,
-        output,
+        alloc, program, node, is_json, recovered, session, waiting, input, log, output,
     ))
 }
 
@@ -316,19 +329,21 @@ fn fault_of(error: HostError) -> Fault
 /// Hosts instances of the node that the words name: makes the call of each line of the input on the instance that it names, and writes
 /// its entry before the next line is read, as a line of a log, or with `--json` as an object; a line that is an entry of a log is replayed,
 /// and has to be right. With a log among the words that is read and replayed first, and gone on in by `log`: the lines of the input are calls
-/// alone, and an answer is begun only once the line of its entry is whole there. Gives the status of the process: 0 where all lines were read
-/// and none was denied, 2 where one was, else that of the fault. `keys` are of the names' hash function.
+/// alone, and an answer is begun only once the line of its entry is whole there, and with `--sync` once the log was synced with it. Gives the
+/// status of the process: 0 where all lines were read and none was denied, 2 where one was, else that of the fault. `keys` are of the names'
+/// hash function, and `waiting` are the lines that were read ahead of the input.
 pub fn command<D: Folder, S: Source, L: Log, O: Sink, F: Sink>(
     alloc: Global,
     folder: &D,
     words: &[String],
     keys: RandomState,
+    waiting: &Waiting,
     input: &mut S,
     log: &mut L,
     output: &mut O,
     faults: &mut F,
 ) -> u8
-    ensures ends { Ends (ReadFails D.File D.File.left D.File.failures) (D.known folder.now) (IsReadied L L.opens L.cuts log.old)
+    ensures ends { Ends (ReadFails D.File D.File.left D.File.failures) (D.known folder.now) (IsReadied L L.opens L.cuts log.old) (IsSafe L L.syncs L.written)
         (asked (map string_bytes words.now)) (S.left input.old) (S.left input.new)
         (change (L.written log.old) (L.written log.new) (L.failures log.old) (L.failures log.new))
         (change (O.written output.old) (O.written output.new) (O.failures output.old) (O.failures output.new))
@@ -341,7 +356,7 @@ pub fn command<D: Folder, S: Source, L: Log, O: Sink, F: Sink>(
         right: String::new(alloc),
     };
     match perform(
-        alloc, folder, words, keys, input, log, output, &mut wrong, faults,
+        alloc, folder, words, keys, waiting, input, log, output, &mut wrong, faults,
     ) {
         Ok(Ok(score)) => lines_status(score.refused),
         Ok(Err(error)) => {

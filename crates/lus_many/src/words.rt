@@ -24,11 +24,12 @@ pub struct Task<'a> {
     pub session: Option<Session<'a>>,
 }
 
-/// A log that is gone on in, by the name of its file, and who calls, if it is one caller.
+/// A log that is gone on in, by the name of its file, who calls, if it is one caller, and whether the log is synced before answers.
 #[derive(Clone, Copy)]
 pub struct Session<'a> {
     pub log: &'a str,
     pub caller: Option<&'a str>,
+    pub is_synced: bool,
 }
 
 /// Whether many instances are asked for.
@@ -41,7 +42,8 @@ fn command<'a>(alloc: Global) -> Result<Command<'a>, AllocError>
 {
     let many = with_flag(alloc, bare(alloc, "lus_live"), "many")?;
     let json = with_flag(alloc, many, "json")?;
-    let caller = with_value(alloc, json, "caller")?;
+    let sync = with_flag(alloc, json, "sync")?;
+    let caller = with_value(alloc, sync, "caller")?;
     let program = with_required(alloc, caller, "PROGRAM")?;
     let node = with_required(alloc, program, "NODE")?;
     with_optional(alloc, node, "LOG")
@@ -56,16 +58,29 @@ pub fn read_words<'a>(alloc: Global, words: &'a [String]) -> Result<Task<'a>, Wo
     choose(&matches).ok_or(WordsError::Mistaken)
 }
 
-/// The log of a file, and perhaps a caller, who is named only beside it.
-fn choose_session<'a>(log: Option<&'a str>, caller: Option<&'a str>) -> Option<Option<Session<'a>>>
-    ensures { option_map sessions_seen result ≡ session_of (option_map (λ t. t.now) log.entry) (option_map (λ t. t.now) caller.entry) }
+/// The log of a file, and perhaps a caller and syncs, which are asked for only beside it.
+fn choose_session<'a>(
+    is_synced: bool,
+    log: Option<&'a str>,
+    caller: Option<&'a str>,
+) -> Option<Option<Session<'a>>>
+    ensures { option_map sessions_seen result ≡ session_of is_synced (option_map (λ t. t.now) log.entry) (option_map (λ t. t.now) caller.entry) }
 {
-    match (log, caller) {
-        (None, None) => Some(None),
-        (None, Some(_)) => None,
-        (Some(log), None) => Some(Some(Session { log, caller })),
-        (Some(log), Some(name)) if is_name(name) => Some(Some(Session { log, caller })),
-        (Some(_), Some(_)) => None,
+    match (is_synced, log, caller) {
+        (false, None, None) => Some(None),
+        (true, None, None) => None,
+        (_, None, Some(_)) => None,
+        (_, Some(log), None) => Some(Some(Session {
+            log,
+            caller,
+            is_synced,
+        })),
+        (_, Some(log), Some(name)) if is_name(name) => Some(Some(Session {
+            log,
+            caller,
+            is_synced,
+        })),
+        (_, Some(_), Some(_)) => None,
     }
 }
 
@@ -76,7 +91,8 @@ fn choose<'a>(matches: &ArgMatches<'a>) -> Option<Task<'a>>
     let program = value_of(matches, "PROGRAM")?;
     let node = value_of(matches, "NODE")?;
     let is_json = is_set(matches, "json");
-    let session = choose_session(value_of(matches, "LOG"), value_of(matches, "caller"))?;
+    let (log, caller) = (value_of(matches, "LOG"), value_of(matches, "caller"));
+    let session = choose_session(is_set(matches, "sync"), log, caller)?;
     Some(Task {
         program,
         node,

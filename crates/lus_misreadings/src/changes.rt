@@ -1,13 +1,13 @@
-//! Changes of a source that help: with each the parser gets further than the change goes. And further ones of the same kind that the
-//! equation needs.
+//! Changes of a source that help: with each the parser gets further than the change goes. And further ones that the equation needs.
 
 use crate::fault::{Fault, fault_at};
 use crate::grouping::mix_at;
 use crate::readable::{readable, tokens_in};
 use crate::rewriting::rewritten;
-use crate::rule::{NONE, rule_of};
+use crate::rule::{NONE, Rule, rule_of};
 use crate::rules::RULES;
 use crate::trial::tokens_of;
+use crate::words::is_any;
 use lus_faults::{Edit, bytes_at, edited, offset_of};
 use lus_grammar::parse;
 use lus_syntax::{Refusal, RefusalNumber, Token, lex};
@@ -16,7 +16,7 @@ use std::alloc::{AllocError, Global};
 /// The most further changes that are put together with a first one.
 const MOST_FURTHER: usize = 19;
 
-/// What tells a change: a rule of this sentence, or a mix of operators.
+/// What tells a change: a rule of this sentence, and then others that write one word or sign for another, or a mix of operators.
 #[derive(Clone, Copy)]
 pub enum Teller {
     Rule(&'static str),
@@ -86,21 +86,36 @@ fn trusted(
     }
 }
 
-/// The change of the first rule of a sentence that is about a fault.
+/// Whether a rule writes one thing for what it is about, whatever that is: a word, a sign, or the same number.
+fn is_plain(rule: Rule) -> bool {
+    let written = rule.rewrite;
+    is_any(written, &["$="])
+        || !written.is_empty()
+            && !is_any(written, &["-"])
+            && !written.contains("$")
+            && !written.starts_with("?")
+}
+
+/// The change of the first rule of a sentence that is about a fault; where the first rule of all that is about it is a plain one, its.
 fn told_by_rule(
     alloc: Global,
     fault: &Fault<'_>,
     sentence: &'static str,
 ) -> Result<Option<Edit>, AllocError> {
     let mut above = NONE;
+    let mut is_first = true;
     for row in RULES.lines() {
         let rule = rule_of(row, above);
-        if rule.sentence == sentence {
-            if let Some(found) = rule.fit(alloc, fault)? {
+        above = rule;
+        let is_kin = rule.sentence == sentence;
+        if (is_first || is_kin)
+            && let Some(found) = rule.fit(alloc, fault)?
+        {
+            if is_kin || is_plain(rule) {
                 return rewritten(alloc, fault, &found, rule.rewrite);
             }
+            is_first = false;
         }
-        above = rule;
     }
     Ok(None)
 }
@@ -245,7 +260,7 @@ fn with_further(
     Ok(edit)
 }
 
-/// A change of a text, if it helps, with all further ones of its kind that the equation or the line needs.
+/// A change of a text, if it helps, with all further ones that the equation or the line needs and that are told alike.
 pub fn whole(
     alloc: Global,
     fault: &Fault<'_>,

@@ -3,9 +3,10 @@
 use crate::edits::{edit_at, edit_of};
 use crate::fault::{Fault, Range, is_name};
 use crate::gate::{about_marks, about_word};
+use crate::heads::is_variable;
 use crate::saying::told;
-use crate::trial::token_of;
-use crate::words::{is_any, is_variable};
+use crate::trial::{Reach, start_of, token_of};
+use crate::words::{is_any, is_constructor};
 use lus_faults::{Edit, Finding, are_near, bytes_at};
 use lus_syntax::{Token, TokenKind, WORDS, Word};
 use std::alloc::{AllocError, Global};
@@ -22,10 +23,13 @@ fn keyword_like(text: &str) -> Option<(&'static str, Word)> {
     None
 }
 
-/// The keyword that a name at a place is in other letters, unless a variable has this name.
+/// The keyword that a name at a place is in other letters, unless a variable or a constructor has this name.
 fn capital_at(fault: &Fault<'_>, place: usize) -> Option<(&'static str, Word)> {
     let text = fault.text(place);
-    if !is_name(fault.tokens.get(place)) || is_variable(fault, text) {
+    if !is_name(fault.tokens.get(place))
+        || is_variable(fault, text)
+        || is_constructor(fault, text)
+    {
         return None;
     }
     keyword_like(text)
@@ -56,13 +60,13 @@ fn capitals_in(alloc: Global, fault: &Fault<'_>, range: Range) -> Result<Vec<usi
     Ok(places)
 }
 
-/// Whether the tokens are read behind the fault's with these names as keywords.
-fn helps(alloc: Global, fault: &Fault<'_>, range: Range) -> Result<bool, AllocError> {
+/// How far the tokens are read with these names in a range as keywords.
+fn reach_lowered(alloc: Global, fault: &Fault<'_>, range: Range) -> Result<Reach, AllocError> {
     let (from, to) = range;
     let mut others = Vec::new(alloc);
     for place in from..to {
         let Some(token) = fault.tokens.get(place) else {
-            return Ok(false);
+            return Ok(fault.reached());
         };
         let other: Token<'_> = match capital_at(fault, place) {
             Some((_, word)) => token_of(TokenKind::Keyword(word)),
@@ -70,8 +74,35 @@ fn helps(alloc: Global, fault: &Fault<'_>, range: Range) -> Result<bool, AllocEr
         };
         others.push(other)?;
     }
-    let reach = fault.reach_with(alloc, from, to, &others)?;
-    Ok(reach.is_behind(fault.next()))
+    fault.reach_with(alloc, from, to, &others)
+}
+
+/// The places of the names in a range that are keywords in other letters, where the tokens are read behind the last one and the fault
+/// with them as keywords; none where they aren't.
+fn helping_in(alloc: Global, fault: &Fault<'_>, range: Range) -> Result<Vec<usize>, AllocError> {
+    let mut places = capitals_in(alloc, fault, range)?;
+    let reach = reach_lowered(alloc, fault, range)?;
+    let is_read = match places.last() {
+        Some(last) => match fault.tokens.get(*last) {
+            Some(token) => reach.is_behind(start_of(token)) && reach.is_behind(fault.next()),
+            None => false,
+        },
+        None => false,
+    };
+    if !is_read {
+        places.clear();
+    }
+    Ok(places)
+}
+
+/// The places of names that are keywords in other letters: all of the declaration, or of the statement at the fault; none where it doesn't
+/// help to read them as keywords.
+fn capitals(alloc: Global, fault: &Fault<'_>) -> Result<Vec<usize>, AllocError> {
+    let all = helping_in(alloc, fault, (0, fault.tokens.len()))?;
+    if !all.is_empty() {
+        return Ok(all);
+    }
+    helping_in(alloc, fault, statement(fault))
 }
 
 /// The change that writes names as the keywords that they are in other letters.
@@ -100,20 +131,30 @@ fn lowered(alloc: Global, fault: &Fault<'_>, places: &[usize]) -> Result<Option<
     edit_at(alloc, fault, (start, end), text, &about)
 }
 
+/// What is said of a keyword in capitals at a place, with all that are to be written anew.
+fn told_capital(
+    alloc: Global,
+    fault: &Fault<'_>,
+    place: usize,
+    spelt: &str,
+    places: &[usize],
+) -> Result<Finding, AllocError> {
+    let found = fault.text(place);
+    let sentence = format!(in alloc; "unknown keyword `{found}`")?;
+    let note = format!(in alloc; "Keywords are in small letters: `{spelt}`.")?;
+    let edit = lowered(alloc, fault, places)?;
+    let wrong = (place, place.saturating_add(1));
+    told(alloc, fault, wrong, sentence, note.as_str(), edit)
+}
+
 /// What is said where a keyword in capitals is read as a name, at the fault or right before it.
 fn told_capitals(alloc: Global, fault: &Fault<'_>) -> Result<Option<Finding>, AllocError> {
     for place in [fault.place, fault.place.saturating_sub(1)] {
-        let Some((spelt, _)) = capital_at(fault, place) else {
-            continue;
-        };
-        let range = statement(fault);
-        if helps(alloc, fault, range)? {
-            let found = fault.text(place);
-            let sentence = format!(in alloc; "unknown keyword `{found}`")?;
-            let note = format!(in alloc; "Keywords are in small letters: `{spelt}`.")?;
-            let edit = lowered(alloc, fault, &capitals_in(alloc, fault, range)?)?;
-            let wrong = (place, place.saturating_add(1));
-            return Ok(Some(told(alloc, fault, wrong, sentence, note.as_str(), edit)?));
+        if let Some((spelt, _)) = capital_at(fault, place) {
+            let places = capitals(alloc, fault)?;
+            if places.contains(&place) {
+                return Ok(Some(told_capital(alloc, fault, place, spelt, &places)?));
+            }
         }
     }
     Ok(None)

@@ -37,20 +37,6 @@ pub fn leads(text: &str) -> bool {
     is_infix(text) || is_any(text, &OPENERS)
 }
 
-/// Whether a variable of this name is declared in the head of the fault's declaration.
-pub fn is_variable(fault: &Fault<'_>, name: &str) -> bool {
-    for place in 0..fault.tokens.len() {
-        let text = fault.text(place);
-        if is_any(text, &["let"]) {
-            return false;
-        }
-        if text == name && is_any(fault.text(place.saturating_add(1)), &[":", ","]) {
-            return true;
-        }
-    }
-    false
-}
-
 /// Whether a name is declared behind one of some words.
 fn is_declared(fault: &Fault<'_>, name: &str, words: &[&str]) -> bool {
     let mut is_behind = false;
@@ -72,6 +58,19 @@ pub fn is_type(fault: &Fault<'_>, name: &str) -> bool {
 /// Whether a text is the name of a node.
 pub fn is_node(fault: &Fault<'_>, name: &str) -> bool {
     is_declared(fault, name, &["node", "function"])
+}
+
+/// Whether a text is the name of a constructor: it stands in the braces of an enumeration.
+pub fn is_constructor(fault: &Fault<'_>, name: &str) -> bool {
+    let mut is_listed = false;
+    for token in fault.all {
+        let text = slice_of(fault.source, token.span);
+        if is_listed && text == name {
+            return true;
+        }
+        is_listed = text.eq_ignore_ascii_case("enum") || is_listed && !is_any(text, &["}"]);
+    }
+    false
 }
 
 /// Whether a text behind a number makes no number of the language: a power, a base, or a sign between digits.

@@ -2,6 +2,7 @@
 
 use crate::doubled::{declared_twice, variable_twice};
 use crate::equations::{left_at, undeclared, undefined, wrong_left};
+use crate::given::Given;
 use crate::looking::{in_declarations, in_node};
 use crate::said::{Said, finding_of};
 use crate::unknown::unknown;
@@ -53,11 +54,17 @@ fn cause_of(alloc: Global, sought: Sought, tree: &Tree) -> Result<Option<Said<'_
 /// What is said of a fault of names, by what stands at its place.
 pub fn name_cause(
     alloc: Global,
+    source: &str,
     tree: &Tree,
     refusal: &Refusal,
 ) -> Result<Option<Finding>, AllocError> {
+    let given = Given {
+        alloc,
+        source,
+        tree,
+    };
     match cause_of(alloc, Sought::of(refusal), tree)? {
-        Some(said) => Ok(Some(finding_of(alloc, &said)?)),
+        Some(said) => Ok(Some(finding_of(given, &said)?)),
         None => Ok(None),
     }
 }

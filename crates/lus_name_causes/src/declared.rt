@@ -1,5 +1,6 @@
 //! What a source declares, by names.
 
+use crate::clocks::is_clock;
 use crate::unknown::Purpose;
 use lus_syntax::{Definition, Group, Name, Node, Tree};
 use std::alloc::{AllocError, Global};
@@ -65,7 +66,7 @@ pub fn push_outside<'t>(
             }
             Ok(())
         }
-        Purpose::Variable | Purpose::Left => Ok(()),
+        Purpose::Clock | Purpose::Variable | Purpose::Left => Ok(()),
     }
 }
 
@@ -78,7 +79,8 @@ fn words_of(purpose: Purpose) -> &'static [&'static str] {
     }
 }
 
-/// The names that could be meant where one is used, in a node or outside, and then the words of the language.
+/// The names that could be meant where one is used, in a node or outside, and then the words of the language. A clock is a variable
+/// that one can test.
 pub fn candidates<'t>(
     alloc: Global,
     tree: &'t Tree,
@@ -86,13 +88,21 @@ pub fn candidates<'t>(
     purpose: Purpose,
 ) -> Result<Vec<&'t str>, AllocError> {
     let mut names = Vec::new(alloc);
-    if let (Some(node), Purpose::Value | Purpose::Variable | Purpose::Left) = (node, purpose) {
+    if let Some(node) = node
+        && !matches!(
+            purpose,
+            Purpose::Constructor | Purpose::Type | Purpose::Node
+        )
+    {
         push_variables(&mut names, node)?;
     }
     push_outside(&mut names, tree, purpose)?;
     let mut texts = Vec::new(alloc);
     for name in &names {
-        texts.push(name.text.as_str())?;
+        let text = name.text.as_str();
+        if is_clock(tree, node, text, purpose) {
+            texts.push(text)?;
+        }
     }
     for word in words_of(purpose) {
         texts.push(*word)?;

@@ -1,5 +1,6 @@
 //! The left sides of equations.
 
+use crate::repair::Repair;
 use crate::said::{Said, told_of};
 use crate::unknown::{Purpose, Use, unknown};
 use lus_faults::{Role, Sought, variable_named};
@@ -34,7 +35,10 @@ fn left_like<'t>(node: &'t Node, other: &Name) -> Option<&'t Name> {
 
 /// What is said of a variable that has an equation and no declaration, where a name is used as one.
 pub fn undeclared<'t>(node: &'t Node, found: Use<'t>) -> Option<Said<'t>> {
-    if found.purpose != Purpose::Value && found.purpose != Purpose::Variable {
+    if !matches!(
+        found.purpose,
+        Purpose::Value | Purpose::Clock | Purpose::Variable
+    ) {
         return None;
     }
     let left = left_like(node, found.name)?;
@@ -42,6 +46,7 @@ pub fn undeclared<'t>(node: &'t Node, found: Use<'t>) -> Option<Said<'t>> {
     let note = "Declare it before `let`: `var {}: ..;`.";
     Some(Said {
         beside: Some((left.span, "the equation of `{}`")),
+        repair: Some(Repair::Declaration(node, left)),
         ..told_of(found.name, sentence, note)
     })
 }
@@ -81,7 +86,13 @@ pub fn wrong_left<'t>(
         purpose: Purpose::Left,
         field: None,
     };
-    unknown(alloc, tree, Some(node), used)
+    match unknown(alloc, tree, Some(node), used)? {
+        Some(said) if said.meant.is_none() => Ok(Some(Said {
+            repair: Some(Repair::Declaration(node, left)),
+            ..said
+        })),
+        found => Ok(found),
+    }
 }
 
 /// What is said of the variable at a place, an output or a local, which has no equation.

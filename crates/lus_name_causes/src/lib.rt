@@ -1,11 +1,17 @@
 //! What is said of a name that is unknown, doubled or not defined.
 #![tactic(auto)]
 
+mod built;
 mod cause;
+mod clocks;
 mod declared;
+mod declaring;
 mod doubled;
 mod equations;
+mod given;
 mod looking;
+mod repair;
+mod respelling;
 mod said;
 mod unknown;
 

@@ -39,7 +39,7 @@ impl<'t> Looking<'t> {
 
     fn test(&mut self, test: &'t Test) {
         match test {
-            Test::Holds(name) | Test::Fails(_, name) => self.name(name, Purpose::Variable),
+            Test::Holds(name) | Test::Fails(_, name) => self.name(name, Purpose::Clock),
             Test::Is(label, name) => {
                 self.label(label);
                 self.name(name, Purpose::Variable);

@@ -1,11 +1,13 @@
 //! What is said of a fault of names, before texts are made of it.
 
+use crate::given::Given;
+use crate::repair::{Repair, with_repair};
 use lus_faults::{Edit, Finding};
 use lus_syntax::{Name, Span};
 use std::alloc::{AllocError, Global};
 
 /// What is said of a name: a sentence, what is at a further place, and a note. A `{}` in them stands for the name, but in the note
-/// for the one that is meant, which then takes the place of so many bytes from the name on.
+/// for the one that is meant, which then takes the place of so many bytes from the name on; or another change of the text.
 #[derive(Clone, Copy)]
 pub struct Said<'t> {
     pub name: &'t Name,
@@ -14,6 +16,7 @@ pub struct Said<'t> {
     pub note: &'static str,
     pub meant: Option<&'t str>,
     pub length: usize,
+    pub repair: Option<Repair<'t>>,
 }
 
 /// What is said of a name, with no further place.
@@ -25,6 +28,7 @@ pub fn told_of<'t>(name: &'t Name, sentence: &'static str, note: &'static str) -
         note,
         meant: None,
         length: name.span.length,
+        repair: None,
     }
 }
 
@@ -62,10 +66,14 @@ fn complete(
 }
 
 /// The texts of what is said.
-pub fn finding_of(alloc: Global, said: &Said<'_>) -> Result<Finding, AllocError> {
+pub fn finding_of<'t>(given: Given<'t>, said: &Said<'t>) -> Result<Finding, AllocError> {
+    let alloc = given.alloc;
     let text = said.name.text.as_str();
     let sentence = worded(alloc, said.sentence, text)?;
     let mut finding = Finding::new(alloc, sentence, said.length);
     complete(alloc, &mut finding, text, said)?;
-    Ok(finding)
+    match said.repair {
+        Some(repair) => with_repair(given, finding, said.name, repair),
+        None => Ok(finding),
+    }
 }

@@ -1,6 +1,9 @@
 //! A name that nothing declares.
 
+use crate::built::built;
+use crate::clocks::constructed;
 use crate::declared::candidates;
+use crate::repair::Repair;
 use crate::said::{Said, told_of};
 use lus_faults::{declared_type, nearest, variable_named};
 use lus_syntax::{Name, Node, Tree};
@@ -10,6 +13,8 @@ use std::alloc::{AllocError, Global};
 #[derive(Clone, Copy, PartialEq, Eq)]
 pub enum Purpose {
     Value,
+    /// A clock that is true or false.
+    Clock,
     Variable,
     Constructor,
     Type,
@@ -22,7 +27,7 @@ impl Purpose {
     fn sentence(self) -> &'static str {
         match self {
             Purpose::Value => "no variable, constant or constructor is named `{}`",
-            Purpose::Variable => "no variable of this node is named `{}`",
+            Purpose::Clock | Purpose::Variable => "no variable of this node is named `{}`",
             Purpose::Constructor => "no constructor is named `{}`",
             Purpose::Type => "no type is named `{}`",
             Purpose::Node => "no node is named `{}`",
@@ -80,10 +85,10 @@ fn note_on_node(text: &str) -> &'static str {
     match text {
         "int2real" | "real2int" =>
             "There are no floating-point numbers, so there is nothing to convert.",
-        "max" | "min" | "abs" => {
-            "It is not built in: write `if a < b then b else a`, or declare a node of this name."
-        }
-        _ => "Declare a node of this name anywhere in the file, or check the spelling.",
+        _ => match built(text) {
+            Some((note, _)) => note,
+            None => "Declare a node of this name anywhere in the file, or check the spelling.",
+        },
     }
 }
 
@@ -132,7 +137,7 @@ fn called_variable<'t>(node: Option<&'t Node>, found: Use<'t>) -> Option<Said<'t
 fn note_on(found: Use<'_>) -> &'static str {
     match found.purpose {
         Purpose::Value => "Declare it as an input, as a local with an equation, or as a constant.",
-        Purpose::Variable =>
+        Purpose::Clock | Purpose::Variable =>
             "A clock is a variable. Declare a local of type `bool` for a constant or a condition.",
         Purpose::Constructor => note_on_constructor(found.name.text.as_str()),
         Purpose::Type =>
@@ -152,6 +157,49 @@ fn written_otherwise<'n>(text: &str, names: &[&'n str]) -> Option<&'n str> {
     None
 }
 
+/// The name that is meant by one that nothing declares: it is spelled otherwise in its capitals, or else nearly so.
+pub fn meant_by<'t>(
+    alloc: Global,
+    tree: &'t Tree,
+    node: Option<&'t Node>,
+    text: &str,
+    purpose: Purpose,
+) -> Result<Option<&'t str>, AllocError> {
+    let names = candidates(alloc, tree, node, purpose)?;
+    match written_otherwise(text, &names) {
+        Some(name) => Ok(Some(name)),
+        None => nearest(alloc, text, &names),
+    }
+}
+
+/// What is said of a name by what it is elsewhere, whatever names are near.
+fn known_elsewhere<'t>(tree: &'t Tree, node: Option<&'t Node>, found: Use<'t>) -> Option<Said<'t>> {
+    if found.purpose == Purpose::Type
+        && let Some((meant, note)) = foreign_type(found.name.text.as_str())
+    {
+        return Some(Said {
+            meant,
+            ..told_of(found.name, found.purpose.sentence(), note)
+        });
+    }
+    qualifier(tree, found)
+        .or(called_variable(node, found))
+        .or(constructed(tree, node, found))
+}
+
+/// The change that mends a name that nothing declares and no name is near: of a function that other languages have.
+fn of_built<'t>(node: Option<&'t Node>, found: Use<'t>) -> Option<Repair<'t>> {
+    if found.purpose != Purpose::Node || built(found.name.text.as_str()).is_none() {
+        return None;
+    }
+    Some(Repair::Built(node?))
+}
+
+/// The change that mends all misspelt names of an equation.
+fn of_spelling(node: Option<&Node>) -> Option<Repair<'_>> {
+    Some(Repair::Respelling(node?))
+}
+
 /// What is said of a name that nothing declares, in a node or outside, with the nearest of the names that could be meant.
 pub fn unknown<'t>(
     alloc: Global,
@@ -159,34 +207,21 @@ pub fn unknown<'t>(
     node: Option<&'t Node>,
     found: Use<'t>,
 ) -> Result<Option<Said<'t>>, AllocError> {
-    let text = found.name.text.as_str();
+    if let Some(said) = known_elsewhere(tree, node, found) {
+        return Ok(Some(said));
+    }
     let said = told_of(found.name, found.purpose.sentence(), note_on(found));
-    if found.purpose == Purpose::Type
-        && let Some((meant, note)) = foreign_type(text)
-    {
+    let meant = meant_by(alloc, tree, node, found.name.text.as_str(), found.purpose)?;
+    if meant.is_none() {
         return Ok(Some(Said {
-            note,
-            meant,
+            repair: of_built(node, found),
             ..said
         }));
-    }
-    if let Some(said) = qualifier(tree, found) {
-        return Ok(Some(said));
-    }
-    if let Some(said) = called_variable(node, found) {
-        return Ok(Some(said));
-    }
-    let names = candidates(alloc, tree, node, found.purpose)?;
-    let meant = match written_otherwise(text, &names) {
-        Some(name) => Some(name),
-        None => nearest(alloc, text, &names)?,
-    };
-    if meant.is_none() {
-        return Ok(Some(said));
     }
     Ok(Some(Said {
         note: "Did you mean `{}`?",
         meant,
+        repair: of_spelling(node),
         ..said
     }))
 }

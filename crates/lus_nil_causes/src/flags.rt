@@ -29,9 +29,14 @@ fn computed(origin: Option<Origin<'_>>) -> Option<Origin<'_>> {
     }
 }
 
-/// The first part of an expression from which a nil comes, where these variables may be nil.
+/// The first part of an expression from which a nil comes, where these variables may be nil, and where the `pre` at some bytes have a
+/// first value.
 #[cycle(origins)]
-fn origin_in<'t>(raised: &IndexSet<&'t str>, expr: &'t Expr) -> Option<Origin<'t>> {
+fn origin_in<'t>(
+    raised: &IndexSet<&'t str>,
+    mended: &[usize],
+    expr: &'t Expr,
+) -> Option<Origin<'t>> {
     match expr {
         Expr::Number(_, _) | Expr::Truth(_, _) | Expr::Call(_, _) | Expr::Merge(_, _, _) => None,
         Expr::Name(name) => {
@@ -44,28 +49,44 @@ fn origin_in<'t>(raised: &IndexSet<&'t str>, expr: &'t Expr) -> Option<Origin<'t
                 None
             }
         }
-        Expr::Structure(_, parts) | Expr::Variadic(_, _, parts) => origin_in_parts(raised, parts),
-        Expr::Unary(Prefix::Pre, _, _) => Some(Origin {
-            expr,
-            is_computed: false,
-        }),
+        Expr::Structure(_, parts) | Expr::Variadic(_, _, parts) => {
+            origin_in_parts(raised, mended, parts)
+        }
+        Expr::Unary(Prefix::Pre, span, _) => {
+            if mended.contains(&span.start.byte) {
+                None
+            } else {
+                Some(Origin {
+                    expr,
+                    is_computed: false,
+                })
+            }
+        }
         Expr::Field(operand, _)
         | Expr::Parentheses(_, operand)
         | Expr::When(operand, _)
         | Expr::Unary(_, _, operand)
-        | Expr::Binary(Infix::Fby | Infix::Arrow, operand, _) => origin_in(raised, operand),
-        Expr::Binary(_, left, right) => origin_in(raised, left).or(origin_in(raised, right)),
+        | Expr::Binary(Infix::Fby | Infix::Arrow, operand, _) => {
+            origin_in(raised, mended, operand)
+        }
+        Expr::Binary(_, left, right) => {
+            origin_in(raised, mended, left).or(origin_in(raised, mended, right))
+        }
         Expr::If(_, condition, left, right) => {
-            let branch = origin_in(raised, left).or(origin_in(raised, right));
-            origin_in(raised, condition).or(computed(branch))
+            let branch = origin_in(raised, mended, left).or(origin_in(raised, mended, right));
+            origin_in(raised, mended, condition).or(computed(branch))
         }
     }
 }
 
 #[cycle(origins)]
-fn origin_in_parts<'t>(raised: &IndexSet<&'t str>, parts: &'t [Part]) -> Option<Origin<'t>> {
+fn origin_in_parts<'t>(
+    raised: &IndexSet<&'t str>,
+    mended: &[usize],
+    parts: &'t [Part],
+) -> Option<Origin<'t>> {
     for part in parts {
-        let found = origin_in(raised, &part.value);
+        let found = origin_in(raised, mended, &part.value);
         if found.is_some() {
             return found;
         }
@@ -80,7 +101,7 @@ fn raise<'t>(
 ) -> Result<bool, AllocError> {
     let mut has_changed = false;
     for equation in equations {
-        if origin_in(raised, &equation.right).is_some() {
+        if origin_in(raised, &[], &equation.right).is_some() {
             for name in &equation.left {
                 has_changed |= raised.insert(name.text.as_str())?;
             }
@@ -103,7 +124,12 @@ pub fn flags_of(alloc: Global, node: &Node) -> Result<Flags<'_>, AllocError> {
 impl<'t> Flags<'t> {
     /// The first part of an expression from which a nil comes: there is one where the expression may be nil.
     pub fn origin(&self, expr: &'t Expr) -> Option<Origin<'t>> {
-        origin_in(&self.raised, expr)
+        origin_in(&self.raised, &[], expr)
+    }
+
+    /// The first such part, where the `pre` at some bytes have a first value.
+    pub fn origin_beside(&self, mended: &[usize], expr: &'t Expr) -> Option<Origin<'t>> {
+        origin_in(&self.raised, mended, expr)
     }
 
     /// The right side of a variable's equation.

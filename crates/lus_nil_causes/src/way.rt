@@ -2,11 +2,11 @@
 
 use crate::first::first_value;
 use crate::flags::Flags;
-use lus_faults::{Edit, Finding, expressions_in, extent_of, slice_of};
+use lus_faults::{Edit, Finding, bytes_at, expressions_in, extent_of, slice_of, start_of};
 use lus_syntax::{Expr, Infix, Span, Tree};
 use std::alloc::{AllocError, Global};
 
-/// How many variables a way is followed through.
+/// How many variables a way is followed through, and how many `pre` of one expression are written anew.
 const MOST_STEPS: usize = 20;
 
 /// What a way is looked for in.
@@ -26,26 +26,70 @@ fn is_enclosed(source: &str, span: Span) -> bool {
     front.last().copied() == Some(b'(') && behind == Some(b')')
 }
 
-/// How `pre` is written with a first value.
-fn edit_of(
+/// Appends how a `pre` at a span is written with a first value.
+fn push_written(
     given: Given<'_, '_>,
-    expr: &Expr,
+    written: &mut String,
+    first: &str,
     span: Span,
-    text: &str,
-) -> Result<Option<Edit>, AllocError> {
-    let Some(first) = first_value(given.tree, given.flags.node, expr) else {
+) -> Result<(), AllocError> {
+    let text = slice_of(given.source, span);
+    if is_enclosed(given.source, span) {
+        write!(written, "{first} -> {text}")
+    } else {
+        write!(written, "({first} -> {text})")
+    }
+}
+
+/// How all of some `pre` are written with a first value, which stand one behind the other.
+fn edit_of(given: Given<'_, '_>, memories: &[&Expr]) -> Result<Option<Edit>, AllocError> {
+    let mut text = String::new(given.alloc);
+    let mut start = None;
+    let mut end = 0;
+    for memory in memories {
+        let span = extent_of(given.source, memory);
+        let Some(first) = first_value(given.tree, given.flags.node, memory) else {
+            return Ok(None);
+        };
+        if start.is_none() {
+            start = Some(span.start.byte);
+        } else {
+            text.push_str(bytes_at(given.source, end, span.start.byte).unwrap_or(""))?;
+        }
+        push_written(given, &mut text, first, span)?;
+        end = span.end().byte;
+    }
+    let Some(byte) = start else {
         return Ok(None);
     };
-    let written = if is_enclosed(given.source, span) {
-        format!(in given.alloc; "{first} -> {text}")?
-    } else {
-        format!(in given.alloc; "({first} -> {text})")?
-    };
-    Ok(Some(Edit {
-        byte: span.start.byte,
-        length: span.length,
-        text: written,
-    }))
+    let length = end.saturating_sub(byte);
+    Ok(Some(Edit { byte, length, text }))
+}
+
+/// The `pre` in an expression from which a nil comes; the first alone, where it may also come from a variable.
+fn memories_in<'t>(
+    given: Given<'_, 't>,
+    whole: &'t Expr,
+    first: &'t Expr,
+) -> Result<Vec<&'t Expr>, AllocError> {
+    let mut memories = Vec::new(given.alloc);
+    let mut places = Vec::new(given.alloc);
+    memories.push(first)?;
+    places.push(start_of(first).byte)?;
+    for _turn in 1..MOST_STEPS {
+        match given.flags.origin_beside(&places, whole) {
+            Some(origin) if !matches!(origin.expr, Expr::Name(_)) => {
+                memories.push(origin.expr)?;
+                places.push(start_of(origin.expr).byte)?;
+            }
+            Some(_) => {
+                memories.truncate(1);
+                return Ok(memories);
+            }
+            None => return Ok(memories),
+        }
+    }
+    Ok(memories)
 }
 
 /// Whether an expression is written before `->` as it stands: a name or a value.
@@ -79,9 +123,34 @@ fn turned(given: Given<'_, '_>, span: Span) -> Result<Option<Edit>, AllocError> 
     Ok(None)
 }
 
-/// Adds a step of a way: a variable, whose right side the way goes on with, or the `pre` at the end, with how it would be written.
+/// Adds the `pre` in an expression that have no first value, and how they would be written.
+fn add_memories<'t>(
+    given: Given<'_, 't>,
+    whole: &'t Expr,
+    first: &'t Expr,
+    finding: &mut Finding,
+) -> Result<(), AllocError> {
+    let memories = memories_in(given, whole, first)?;
+    for memory in &memories {
+        let span = extent_of(given.source, memory);
+        let text = slice_of(given.source, span);
+        let label = format!(in given.alloc; "`{text}` has no value at the first instant")?;
+        finding.relate(span, label)?;
+    }
+    if let Some(edit) = turned(given, extent_of(given.source, first))? {
+        finding.edit = Some(edit);
+        let note = "The first value stands on the left of `->`.";
+        finding.note = Some(String::from_str(given.alloc, note)?);
+        return Ok(());
+    }
+    finding.edit = edit_of(given, &memories)?;
+    Ok(())
+}
+
+/// Adds a step of a way: a variable, whose right side the way goes on with, or each `pre` at the end.
 fn add_step<'t>(
     given: Given<'_, 't>,
+    whole: &'t Expr,
     expr: &'t Expr,
     finding: &mut Finding,
 ) -> Result<Option<&'t Expr>, AllocError> {
@@ -91,19 +160,7 @@ fn add_step<'t>(
         finding.relate(name.span, label)?;
         return Ok(given.flags.right_of(text));
     }
-    let span = extent_of(given.source, expr);
-    let text = slice_of(given.source, span);
-    finding.relate(
-        span,
-        format!(in given.alloc; "`{text}` has no value at the first instant")?,
-    )?;
-    if let Some(edit) = turned(given, span)? {
-        finding.edit = Some(edit);
-        let note = "The first value stands on the left of `->`.";
-        finding.note = Some(String::from_str(given.alloc, note)?);
-        return Ok(None);
-    }
-    finding.edit = edit_of(given, expr, span, text)?;
+    add_memories(given, whole, expr, finding)?;
     Ok(None)
 }
 
@@ -123,7 +180,7 @@ pub fn add_way<'t>(
             break;
         };
         is_computed = is_computed || origin.is_computed;
-        current = add_step(given, origin.expr, finding)?;
+        current = add_step(given, expr, origin.expr, finding)?;
     }
     if is_computed {
         let note =

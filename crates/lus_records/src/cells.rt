@@ -70,7 +70,7 @@ fn cell_at(line_record: &ByteRecord, place: usize) -> &[u8]
 }
 
 /// The cells of a record.
-pub(crate) fn cells_of(alloc: Global, line_record: &ByteRecord) -> Result<Vec<&[u8]>, Memory>
+pub fn cells_of(alloc: Global, line_record: &ByteRecord) -> Result<Vec<&[u8]>, Memory>
     ensures { IfOk result (λ v. map (λ t. t.now) v.items ≡ fields_of line_record.now) }
 {
     let mut cells = Vec::new(alloc);

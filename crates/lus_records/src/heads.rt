@@ -69,8 +69,8 @@ fn distinct(alloc: Global, names: &[&str]) -> Result<Option<IndexSet<String>>, M
     Ok(Some(table))
 }
 
-/// The head that these names are.
-fn head_of(
+/// The head that these names are: each is that of a column, and none stands twice.
+pub fn head_of(
     alloc: Global,
     columns: &[String],
     names: &[&[u8]],
@@ -113,7 +113,7 @@ fn push_columns(
             return push_unknown(
                 text,
                 alloc,
-                "no input has the column ",
+                "there is no column ",
                 &given,
                 "; the columns are ",
                 &all,
@@ -127,6 +127,13 @@ fn push_columns(
         }
     }
     Ok(())
+}
+
+/// Why these names are no head: one is no column's, or stands twice.
+pub fn head_reason(alloc: Global, columns: &[String], names: &[&[u8]]) -> Result<String, Memory> {
+    let mut text = String::new(alloc);
+    push_columns(&mut text, alloc, columns, names)?;
+    sentence(alloc, &text, "it has a name that is no column")
 }
 
 /// Appends why a line is no head.

@@ -26,7 +26,7 @@ pub(crate) struct Cells<'r> {
 }
 
 /// The place of a name in a head.
-fn place_of(head: &IndexSet<String>, name: &str) -> Option<usize>
+pub fn place_of(head: &IndexSet<String>, name: &str) -> Option<usize>
     ensures { result ≡ place_of (map string_bytes head.now.keys) name.now }
 {
     head.get_index_of(name)

@@ -11,7 +11,10 @@ mod replies;
 mod steps;
 
 pub use calls::RecordCalls;
+pub use cells::cells_of;
 pub use columns::all_columns;
-pub use heads::read_head;
-pub use outputs::write_head;
+pub use heads::{head_of, head_reason, read_head};
+pub use inputs::place_of;
+pub use outputs::{bytes_of, record_bytes, row_cells, write_head};
 pub use replies::RecordReplies;
+pub use steps::{step_of, step_reason};

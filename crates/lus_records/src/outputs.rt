@@ -95,7 +95,7 @@ fn item_at(row: &Row, place: usize) -> Option<&Value>
 }
 
 /// The cells of outputs.
-fn row_cells(
+pub fn row_cells(
     alloc: Global,
     program: &Program,
     names: &Names,
@@ -113,8 +113,8 @@ fn row_cells(
     Ok(cells)
 }
 
-/// The bytes of a record.
-fn record_bytes(alloc: Global, fields: &[&[u8]]) -> Result<Vec<u8>, Error>
+/// The bytes of a record, and its line feed. The one error that comes is out of memory.
+pub fn record_bytes(alloc: Global, fields: &[&[u8]]) -> Result<Vec<u8>, Error>
     ensures { IfOk result (λ v. v.items ≡ row_text default_writer (map (λ f. f.now) fields.now)) }
 {
     let mut wtr = WriterBuilder::new().from_writer(Vec::new(alloc));
@@ -125,7 +125,8 @@ fn record_bytes(alloc: Global, fields: &[&[u8]]) -> Result<Vec<u8>, Error>
     }
 }
 
-fn bytes_of(alloc: Global, cells: &[String]) -> Result<Vec<&[u8]>, Memory>
+/// The bytes of cells.
+pub fn bytes_of(alloc: Global, cells: &[String]) -> Result<Vec<&[u8]>, Memory>
     ensures { IfOk result (λ v. map (λ t. t.now) v.items ≡ map string_bytes cells.now) }
 {
     let mut fields = Vec::new(alloc);

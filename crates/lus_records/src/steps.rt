@@ -18,7 +18,7 @@ use lus_values::{Memory, Names};
 use std::alloc::Global;
 
 /// The step that cells are under a head.
-fn step_of(
+pub fn step_of(
     alloc: Global,
     program: &Program,
     names: &Names,
@@ -107,6 +107,21 @@ fn push_cells(
     Ok(())
 }
 
+/// Why cells are no step under a head.
+pub fn step_reason(
+    alloc: Global,
+    program: &Program,
+    names: &Names,
+    inputs: &[Variable],
+    head: &IndexSet<String>,
+    cells: &[&[u8]],
+) -> Result<String, Memory> {
+    let cells = Cells { head, cells };
+    let mut text = String::new(alloc);
+    push_cells(&mut text, alloc, program, names, inputs, &cells)?;
+    sentence(alloc, &text, "its cells are no values of the inputs")
+}
+
 /// Why a line is no step.
 fn reason(
     alloc: Global,
@@ -120,13 +135,7 @@ fn reason(
         return Ok(String::from_str(alloc, "it is more than one record")?);
     };
     let cells = cells_of(alloc, &record)?;
-    let cells = Cells {
-        head,
-        cells: &cells,
-    };
-    let mut text = String::new(alloc);
-    push_cells(&mut text, alloc, program, names, inputs, &cells)?;
-    sentence(alloc, &text, "its cells are no values of the inputs")
+    step_reason(alloc, program, names, inputs, head, &cells)
 }
 
 /// Writes why a line is no step. What can't be written changes nothing.

@@ -23,7 +23,8 @@ pub(crate) fn fault_of(number: RefusalNumber) -> &'static str {
 pub(crate) fn sentence_of(number: RefusalNumber) -> &'static str {
     match number {
         RefusalNumber::Lexical => "Remove it or close the comment; the file must be UTF-8.",
-        RefusalNumber::Syntax => "Something is missing before it, or it does not belong here.",
+        RefusalNumber::Syntax =>
+            "Nothing that stands before it goes on with it: docs/LANGUAGE.md has the grammar.",
         RefusalNumber::Unsupported => "Express it with what is supported, or choose another name.",
         RefusalNumber::Name =>
             "Declare each name once, and give each output and local one equation.",

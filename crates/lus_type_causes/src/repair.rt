@@ -1,9 +1,12 @@
-//! Changes of the text that mend a fault of types.
+//! Changes of the text that mend a fault of types, and the fields that there are.
 
 use crate::kinds::part_named;
 use lus_faults::{Edit, nearest};
 use lus_syntax::{Fields, Name, Part};
 use std::alloc::{AllocError, Global};
+
+/// How many fields of a structure are told.
+const MOST_TOLD: usize = 8;
 
 /// A change of the text.
 #[derive(Clone, Copy)]
@@ -46,6 +49,35 @@ fn field_edit(alloc: Global, name: &Name, groups: &[Fields]) -> Result<Option<Ed
         })),
         None => Ok(None),
     }
+}
+
+/// Appends names, with commas between and an `and` before the last; of many the first, and how many others there are.
+fn push_names(text: &mut String, names: &[&str]) -> Result<(), AllocError> {
+    let count = names.len();
+    let told = names.get(..MOST_TOLD).unwrap_or(names);
+    for (place, name) in told.iter().enumerate() {
+        let comma = match place {
+            0 => "",
+            _ if place.saturating_add(1) == count => " and ",
+            _ => ", ",
+        };
+        write!(text, "{comma}`{name}`")?;
+    }
+    let others = count.saturating_sub(MOST_TOLD);
+    if others > 0 {
+        write!(text, " and {others} more")?;
+    }
+    Ok(())
+}
+
+/// The note on a name that is no field of a type: which fields it has.
+pub fn note_on_fields(alloc: Global, of: &str, groups: &[Fields]) -> Result<String, AllocError> {
+    let names = names_of(alloc, groups)?;
+    let word = if names.len() == 1 { "field" } else { "fields" };
+    let mut note = format!(in alloc; "`{of}` has the {word} ")?;
+    push_names(&mut note, &names)?;
+    note.push('.')?;
+    Ok(note)
 }
 
 /// Appends the branch of a label, if there is none.

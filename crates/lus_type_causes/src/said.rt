@@ -1,7 +1,7 @@
 //! What is said of a fault of types, before texts are made of it.
 
 use crate::given::Given;
-use crate::repair::{Repair, edit_of};
+use crate::repair::{Repair, edit_of, note_on_fields};
 use crate::rows::row;
 use lus_faults::{Finding, extent_of};
 use lus_program::Kind;
@@ -150,6 +150,9 @@ pub fn finding_of(given: Given<'_>, said: &Said<'_>) -> Result<Finding, AllocErr
     let note = row(said.advice).1;
     if !note.is_empty() {
         finding.note = Some(filled(alloc, note, said.words)?);
+    }
+    if let Some(Repair::Field(_, groups)) = said.repair {
+        finding.note = Some(note_on_fields(alloc, said.words.wanted, groups)?);
     }
     if let Some(repair) = said.repair {
         finding.edit = edit_of(alloc, repair)?;

@@ -12,6 +12,7 @@ abbrev pub invariant-loop-turn : goal.invariant-loop-turn
 invariant-loop-turn g l =
     (l.entered + l.refused ≤ l.turn)
     × ((before : List Logged) → Keeps (program_of (arc_value l.host.program.now)) l.host.node.0 before l.initial.instances
-    → SoFar (reads_seen l.lines) (program_of (arc_value l.host.program.now)) l.host.node.0 (g.J.Tells.spelling l.scribe) (g.T.Tells.spelling l.teller) before
+    → SoFar g.row.L.Denot g.L.Syncs.syncs g.L.Sink.written l.is_synced (reads_seen l.lines) (program_of (arc_value l.host.program.now)) l.host.node.0
+    (g.J.Tells.spelling l.scribe) (g.T.Tells.spelling l.teller) before
     (g.S.Source.left l.initial.input) (g.L.Sink.written l.initial.log) (g.O.Sink.written l.initial.output)
-    (g.S.Source.left l.input) (g.L.Sink.written l.log) (g.O.Sink.written l.output) l.instances l.entered l.refused l.turn)
+    (g.S.Source.left l.input) (g.L.Sink.written l.log) (g.O.Sink.written l.output) l.held.items l.instances l.entered l.refused l.turn)

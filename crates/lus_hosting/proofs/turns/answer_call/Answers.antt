@@ -1,21 +1,22 @@
 -- A call was made, or the line is denied.
-use Rattle.std.proofs.Common.{inr, subst}
+use Rattle.std.proofs.Common.{inr, subst, sym}
 use Rattle.std.specs.Arc.{arc_value}
 use Rattle.std.proofs.lemmas.Result.{IfOk-weaker}
+use Rattle.lus_lines.specs.Lines.{IsPlain}
 use Rattle.lus_reactions.specs.Reactions.{IsCallTo}
 use Rattle.lus_live_instance.specs.MachineSpecs.CodeSpecs.Codes.{program_of}
 use Rattle.lus_live_instance.specs.MachineSpecs.Constructors.{names_of}
 use Rattle.lus_hosting.proofs.AnswerLaws.{answered_call, answered_denied, no_call_line, spelled_words}
 use Rattle.lus_hosting.proofs.turns.answer_call.Goals as goal
 
-pub returns-in-None : goal.returns-in-None
-returns-in-None g c = λ reads log line utf8 words all keeps.
+pub returns-in_ok-reason-in-None : goal.returns-in_ok-reason-in-None
+returns-in_ok-reason-in-None g c = λ reads log line utf8 words all keeps.
     (let p = program_of (arc_value c.args.host.program.now) in
     let named = spelled_words reads line c.args.words.0.now c.args.words.1.now c.args.words.2.now words in
     IfOk-weaker c.deny.result _ _
     (λ kind denied. answered_denied _ _ _ _ _ log line _ _ _ kind _ _ _
     (inr (no_call_line reads _ _ line _ _ _ all (subst (IsCallTo p (names_of p) c.args.host.node.0 c.args.words.2.now) c.in-None.is c.in_ok-request.ensures)))
-    named.0 named.1 c.no_call.ensures denied keeps)
+    named.0 named.1 (subst IsPlain (sym c.as_str.ensures.value) c.in_ok-reason-in-None.ensures) denied keeps)
     c.deny.ensures)
 
 pub returns-in_ok-tell_entry-in-Some : goal.returns-in_ok-tell_entry-in-Some

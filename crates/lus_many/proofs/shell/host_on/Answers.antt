@@ -2,6 +2,7 @@
 use Rattle.std.proofs.Common.{◌≡◌, ◌∙◌, ap, refl, subst, sym, None, Some}
 use Rattle.std.specs.Arc.{arc_value}
 use Rattle.std.specs.Option.{option_map}
+use Rattle.lus_bursts.specs.Syncs.{IsSafe}
 use Rattle.lus_cli.specs.Changes.{change}
 use Rattle.lus_cli.specs.CodeSpecs.Codes.{program_of}
 use Rattle.lus_cli.specs.Ends.{ReadFails}
@@ -40,7 +41,7 @@ returns-in-None-clause-ends g c =
     let named : node_named (program_of c.in_ok-program.program) c.args.task.node.now ≡ Some c.in-Some.node.0 =
     sym c.node.ensures ∙ ap (option_map _) c.in-Some.is in
     task_ran (ReadFails g.row.D-File.Denot g.D.File.Source.left g.D.File.Source.failures) (g.D.Folder.known c.args.folder.now)
-    (IsReadied g.row.L.Denot g.L.Log.opens g.L.Log.cuts c.args.log.now) (g.S.Source.left c.args.input.now) (g.S.Source.left c.host_in.new.input)
+    (IsReadied g.row.L.Denot g.L.Log.opens g.L.Log.cuts c.args.log.now) (IsSafe g.row.L.Denot g.L.Syncs.syncs g.L.Sink.written) (g.S.Source.left c.args.input.now) (g.S.Source.left c.host_in.new.input)
     (change (g.L.Sink.written c.args.log.now) (g.L.Sink.written c.args.log.now) (g.L.Sink.failures c.args.log.now) (g.L.Sink.failures c.args.log.now)) (task_seen c.args.task) (program_of (arc_value c.in-Ok.program)) c.in-Some.node.0
     (change (g.O.Sink.written c.args.output.now) (g.O.Sink.written c.host_in.new.output) (g.O.Sink.failures c.args.output.now) (g.O.Sink.failures c.host_in.new.output))
     (subst (IsOfFile (g.D.Folder.known c.args.folder.now c.args.task.program.now)) same c.in_ok-program.ensures.accepted)
@@ -53,7 +54,7 @@ returns-clause-ends g c =
     let named : node_named (program_of c.in_ok-program.program) c.args.task.node.now ≡ Some c.in-Some.node.0 =
     sym c.node.ensures ∙ ap (option_map _) c.in-Some.is in
     task_goes (ReadFails g.row.D-File.Denot g.D.File.Source.left g.D.File.Source.failures) (g.D.Folder.known c.args.folder.now)
-    (IsReadied g.row.L.Denot g.L.Log.opens g.L.Log.cuts c.args.log.now) (g.S.Source.left c.args.input.now) (g.S.Source.left c.go_on.new.input)
+    (IsReadied g.row.L.Denot g.L.Log.opens g.L.Log.cuts c.args.log.now) (IsSafe g.row.L.Denot g.L.Syncs.syncs g.L.Sink.written) (g.S.Source.left c.args.input.now) (g.S.Source.left c.go_on.new.input)
     (change (g.L.Sink.written c.args.log.now) (g.L.Sink.written c.go_on.new.log) (g.L.Sink.failures c.args.log.now) (g.L.Sink.failures c.go_on.new.log)) (task_seen c.args.task) (program_of (arc_value c.in-Ok.program)) c.in-Some.node.0
     (change (g.O.Sink.written c.args.output.now) (g.O.Sink.written c.go_on.new.output) (g.O.Sink.failures c.args.output.now) (g.O.Sink.failures c.go_on.new.output))
     (subst (IsOfFile (g.D.Folder.known c.args.folder.now c.args.task.program.now)) same c.in_ok-program.ensures.accepted)

@@ -1,0 +1,126 @@
+//! Changes of the text that mend a fault of names.
+
+use crate::built::built_edit;
+use crate::clocks::{note_on_constructor, variables_of};
+use crate::declared::push_variables;
+use crate::declaring::{declaration_of, declaring};
+use crate::given::Given;
+use crate::respelling::{Slip, respelt, slips_beside};
+use lus_faults::{Edit, Finding};
+use lus_syntax::{Name, Node, TypeDeclaration};
+use std::alloc::{AllocError, Global};
+
+/// A change of the text, in a node.
+#[derive(Clone, Copy)]
+pub enum Repair<'t> {
+    /// What a function computes that other languages have, in the place of its call.
+    Built(&'t Node),
+    /// A variable of the type of a constructor, with its place among the types, behind the constructor.
+    Clock(&'t Node, usize, &'t TypeDeclaration),
+    /// A declaration of the local at the left of an equation.
+    Declaration(&'t Node, &'t Name),
+    /// The names that are meant in the place of all misspelt ones of an equation.
+    Respelling(&'t Node),
+}
+
+/// The note on several misspelt names.
+fn note_on_slips(alloc: Global, slips: &[Slip<'_>]) -> Result<String, AllocError> {
+    let mut note = String::from_str(alloc, "Did you mean ")?;
+    let mut left = slips.len();
+    for slip in slips {
+        left = left.saturating_sub(1);
+        let meant = slip.meant;
+        let comma = match left {
+            0 => "?",
+            1 => " and ",
+            _ => ", ",
+        };
+        write!(note, "`{meant}`{comma}")?;
+    }
+    Ok(note)
+}
+
+/// A finding on a misspelt name, with all others of its equation.
+fn with_slips<'t>(
+    given: Given<'t>,
+    finding: Finding,
+    name: &Name,
+    node: &'t Node,
+) -> Result<Finding, AllocError> {
+    let slips = slips_beside(given, node, name)?;
+    if slips.len() < 2 {
+        return Ok(finding);
+    }
+    let edit = respelt(given, &slips)?;
+    let note = Some(note_on_slips(given.alloc, &slips)?);
+    Ok(Finding {
+        note,
+        edit,
+        ..finding
+    })
+}
+
+/// A finding on a constructor in the place of a clock, with the variables that are clocks with it.
+fn with_clock<'t>(
+    given: Given<'t>,
+    finding: Finding,
+    name: &Name,
+    node: &'t Node,
+    of: (usize, &'t TypeDeclaration),
+) -> Result<Finding, AllocError> {
+    let (place, declaration) = of;
+    let constructor = name.text.as_str();
+    let mut names = Vec::new(given.alloc);
+    push_variables(&mut names, node)?;
+    let variables = variables_of(given.alloc, given.tree, node, &names, place)?;
+    let note = note_on_constructor(given.alloc, constructor, declaration, &variables)?;
+    let edit = match variables.as_slice() {
+        [variable] => Some(Edit {
+            byte: name.span.start.byte,
+            length: name.span.length,
+            text: format!(in given.alloc; "{constructor}({variable})")?,
+        }),
+        _ => None,
+    };
+    Ok(Finding {
+        note: Some(note),
+        edit,
+        ..finding
+    })
+}
+
+/// A finding on a local that isn't declared, with its declaration, if the type is plain.
+fn with_declaration<'t>(
+    given: Given<'t>,
+    finding: Finding,
+    node: &'t Node,
+    left: &Name,
+) -> Result<Finding, AllocError> {
+    let Some(declared) = declaration_of(given, node, left)? else {
+        return Ok(finding);
+    };
+    let note = format!(in given.alloc; "Declare it before `let`: `var {declared};`.")?;
+    let edit = declaring(given, node, left, declared.as_str())?;
+    Ok(Finding {
+        note: Some(note),
+        edit,
+        ..finding
+    })
+}
+
+/// A finding on a name with a change of the text.
+pub fn with_repair<'t>(
+    given: Given<'t>,
+    finding: Finding,
+    name: &Name,
+    repair: Repair<'t>,
+) -> Result<Finding, AllocError> {
+    match repair {
+        Repair::Built(node) => Ok(finding.with_edit(built_edit(given, node, name)?)),
+        Repair::Clock(node, place, declaration) => {
+            with_clock(given, finding, name, node, (place, declaration))
+        }
+        Repair::Declaration(node, left) => with_declaration(given, finding, node, left),
+        Repair::Respelling(node) => with_slips(given, finding, name, node),
+    }
+}

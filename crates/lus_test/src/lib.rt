@@ -1,0 +1,22 @@
+//! `lus_test PROGRAM TABLE..` tries a controller on tables of inputs and of the outputs that are expected, a row for each instant, and
+//! says of each table that it passes, or where it first doesn't. With `--write` it writes a table anew, with the outputs that come.
+#![tactic(auto)]
+
+mod error;
+mod filling;
+mod finding;
+mod grid;
+mod problem;
+mod reading;
+mod report;
+mod running;
+mod shell;
+mod table;
+mod testing;
+mod words;
+
+pub use error::TableError;
+pub use finding::Finding;
+pub use reading::read_records;
+pub use shell::command;
+pub use testing::{Tested, test};
