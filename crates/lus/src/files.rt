@@ -1,7 +1,7 @@
 //! The files that the words of a tool for people name, and which it couldn't open.
 
+use crate::arguments::placed_words;
 use crate::instance::names_instance;
-use crate::mistaken::arguments_of;
 use lus_devices::{Sink, write_all};
 use lus_many::is_many;
 use std::alloc::{AllocError, Global};
@@ -25,39 +25,19 @@ fn is_unopened<R: Files>(rt: &R, name: &str) -> bool {
     }
 }
 
-/// Whether a word is an option of a tool for people, which the word behind it is the value of.
-fn takes_word(tool: &str, word: &str) -> bool {
-    for argument in arguments_of(tool).unwrap_or("").split(' ') {
-        if argument.strip_suffix("=") == Some(word) {
-            return true;
-        }
-    }
-    false
-}
-
-/// The words that name files. No flag does, nor what stands behind one that takes a word, nor `-`, nor the second word of `lus_live`, of
-/// `lus_audit --many` or of `lus_draw --instance`, that is no flag: a node's name.
+/// The words that name files: those told by their place, but for a node's name, the second one of `lus_live`, of `lus_audit --many` and of
+/// `lus_draw --instance`.
 pub fn named_files<'w>(
     alloc: Global,
     tool: &str,
     words: &'w [String],
 ) -> Result<Vec<&'w str>, AllocError> {
-    let mut found = Vec::new(alloc);
-    let mut count = 0usize;
-    let mut is_taken = false;
+    let mut files = placed_words(alloc, tool, words)?;
     let has_node = tool == "lus_live" || is_many(words) || names_instance(words);
-    for word in words {
-        let name = word.as_str();
-        if !is_taken && !name.starts_with("-") {
-            let is_node = has_node && count == 1;
-            count = count.saturating_add(1);
-            if !is_node {
-                found.push(name)?;
-            }
-        }
-        is_taken = takes_word(tool, name);
+    if has_node && files.len() > 1 {
+        files.remove(1);
     }
-    Ok(found)
+    Ok(files)
 }
 
 /// Whether a tool's own line of a fault of a file or a journal doesn't say which it is: `lus_format` names each file itself, and `lus_lsp` has

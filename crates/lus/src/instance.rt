@@ -2,6 +2,7 @@
 
 ghost use Rattle.std.specs.Prelude.{None};
 
+use crate::arguments::{placed_words, takes_word, value_behind};
 use crate::wrong_line::{Told, journal_line, replies};
 use itoa::Buffer;
 use lus_cli::lus_host::{Memory, ScriptRefusal};
@@ -10,7 +11,7 @@ use lus_culprits::push_name;
 use lus_devices::{Disk, Failure, Folder, Sink, Source, write_all};
 use lus_faults::nearest;
 use lus_lines::{Buffered, LineError, Whole, read_whole_line};
-use std::alloc::Global;
+use std::alloc::{AllocError, Global};
 use std::rt::Files;
 use std::str::from_utf8;
 
@@ -25,54 +26,50 @@ struct Asked<'w> {
     log: &'w str,
 }
 
-/// Whether what stands behind this word is no name of a file.
-fn takes_word(word: &str) -> bool {
-    matches!(word, "--signals" | "--from" | "--to")
-}
-
 /// Whether the words ask for one instance.
 pub fn names_instance(words: &[String]) -> bool {
     words.iter().any(|word| word.as_str() == "--instance" || word.starts_with("--instance="))
 }
 
-/// What the words ask for, where there are an instance, a PROGRAM, a NODE and a LOG.
-fn read_words<'w>(alloc: Global, words: &'w [String]) -> Result<Option<Asked<'w>>, Memory> {
-    let (mut instance, mut program, mut node, mut log) = (None, None, None, None);
-    let mut rest = Vec::new(alloc);
-    let mut files = 0u64;
+/// Whether a word names an instance, or the option whose value is the next word, the instance.
+fn is_of_instance(before: &str, word: &str) -> bool {
+    before == "--instance" || word == "--instance" || word.starts_with("--instance=")
+}
+
+/// The flags of a drawing with what stands behind them, but for the instance.
+fn flags(alloc: Global, words: &[String]) -> Result<Vec<String>, AllocError> {
+    let mut flags = Vec::new(alloc);
     let mut before = "";
     for word in words {
         let word = word.as_str();
-        if before == "--instance" {
-            instance = Some(word);
-        } else if let Some(name) = word.strip_prefix("--instance=") {
-            instance = Some(name);
-        } else if word != "--instance" {
-            let is_file = !word.starts_with("-") && !takes_word(before);
-            files = files.saturating_add(u64::from(is_file));
-            if is_file && files == 2 {
-                node = Some(word);
-            } else {
-                rest.push(String::from_str(alloc, word)?)?;
-            }
-            match files {
-                1 if is_file => program = Some(word),
-                3 if is_file => log = Some(word),
-                _ => {}
-            }
+        let is_flag = word.starts_with("-") || takes_word("lus_draw", before);
+        if is_flag && !is_of_instance(before, word) {
+            flags.push(String::from_str(alloc, word)?)?;
         }
         before = word;
     }
-    match (instance, program, node, log, files) {
-        (Some(instance), Some(program), Some(node), Some(log), 3) => Ok(Some(Asked {
-            instance,
-            rest,
-            program,
-            node,
-            log,
-        })),
-        _ => Ok(None),
-    }
+    Ok(flags)
+}
+
+/// What the words ask for, where there are an instance, a PROGRAM, a NODE and a LOG.
+fn read_words<'w>(alloc: Global, words: &'w [String]) -> Result<Option<Asked<'w>>, AllocError> {
+    let Some(instance) = value_behind(words, "--instance") else {
+        return Ok(None);
+    };
+    let placed = placed_words(alloc, "lus_draw", words)?;
+    let [program, node, log] = *placed.as_slice() else {
+        return Ok(None);
+    };
+    let mut rest = flags(alloc, words)?;
+    rest.push(String::from_str(alloc, program)?)?;
+    rest.push(String::from_str(alloc, log)?)?;
+    Ok(Some(Asked {
+        instance,
+        rest,
+        program,
+        node,
+        log,
+    }))
 }
 
 /// The journal of an instance as a log has it, and which lines of the log its lines are.
@@ -291,7 +288,7 @@ pub fn draw_instance<R: Files, O: Sink, F: Sink>(
     let asked = match read_words(alloc, words) {
         Ok(Some(asked)) => asked,
         Ok(None) => return tell(faults, Fault::Words),
-        Err(Memory) => return tell(faults, Fault::Memory),
+        Err(AllocError) => return tell(faults, Fault::Memory),
     };
     let disk = Disk(rt);
     let Ok(log) = disk.open(asked.log) else {

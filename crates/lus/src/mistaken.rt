@@ -1,5 +1,6 @@
 //! Which argument of a tool for people is wrong, and what is near it.
 
+use crate::arguments::{arguments_of, value_behind};
 use crate::files::{named_files, opens};
 use crate::wrong_line::read_line;
 use clap::{Arg, ArgAction, Command};
@@ -11,23 +12,6 @@ use std::rt::Files;
 
 /// A hint of clap's that helps nobody here: no file's name is likely to begin with two hyphens.
 const AS_VALUE: &str = "tip: to pass ";
-
-/// The arguments of a tool for people as they are typed: a flag, an option that a `=` stands behind, and what stands at its place, with
-/// brackets where it may be missing and dots where it may be there several times.
-pub fn arguments_of(tool: &str) -> Option<&'static str> {
-    match tool {
-        "lus_explain" => Some("--json --warnings --script= --error= PROGRAM [SCRIPTS]"),
-        "lus_format" => Some("--check --write FILE.."),
-        "lus_draw" => Some(
-            "--html --waves --csv --vcd --all --from= --to= --signals= --instance= PROGRAM [JOURNAL] [LOG]",
-        ),
-        "lus_audit" => Some("--why --many PROGRAM JOURNAL [LOG]"),
-        "lus_live" => Some("--json --csv --many --sync --caller= PROGRAM NODE [JOURNAL]"),
-        "lus_test" => Some("--write --node= PROGRAM TABLE.."),
-        "lus_lsp" => Some("--stdio"),
-        _ => None,
-    }
-}
 
 /// A command with one more of the arguments that are typed so.
 fn with_argument<'a>(
@@ -108,23 +92,6 @@ pub fn explain_words<F: Sink>(alloc: Global, tool: &str, words: &[String], fault
     for piece in [tool, ": see `", tool, " --help`\n"] {
         let _ = write_all(faults, piece.as_bytes());
     }
-}
-
-/// What stands behind an option, in the same word or in the next one.
-fn value_behind<'w>(words: &'w [String], option: &str) -> Option<&'w str> {
-    let mut is_next = false;
-    for word in words {
-        if is_next {
-            return Some(word.as_str());
-        }
-        if let Some(rest) = word.strip_prefix(option) {
-            if let Some(value) = rest.strip_prefix("=") {
-                return Some(value);
-            }
-            is_next = rest.is_empty();
-        }
-    }
-    None
 }
 
 fn tell_no_variable<F: Sink>(alloc: Global, tool: &str, name: &str, faults: &mut F) {

@@ -1,0 +1,65 @@
+//! The arguments of the tools for people, and how words are read as them.
+
+use std::alloc::{AllocError, Global};
+
+/// The arguments of a tool for people as they are typed: a flag, an option that a `=` stands behind, and what stands at its place, with
+/// brackets where it may be missing and dots where it may be there several times.
+pub fn arguments_of(tool: &str) -> Option<&'static str> {
+    match tool {
+        "lus_explain" => Some("--json --warnings --script= --error= PROGRAM [SCRIPTS]"),
+        "lus_format" => Some("--check --write FILE.."),
+        "lus_draw" => Some(
+            "--html --waves --csv --vcd --all --from= --to= --signals= --instance= PROGRAM [JOURNAL] [LOG]",
+        ),
+        "lus_audit" => Some("--why --many PROGRAM JOURNAL [LOG]"),
+        "lus_live" => Some("--json --csv --many --sync --caller= PROGRAM NODE [JOURNAL]"),
+        "lus_test" => Some("--write --node= PROGRAM TABLE.."),
+        "lus_lsp" => Some("--stdio"),
+        _ => None,
+    }
+}
+
+/// Whether a word is an option of a tool for people, which the word behind it is the value of.
+pub fn takes_word(tool: &str, word: &str) -> bool {
+    for argument in arguments_of(tool).unwrap_or("").split(' ') {
+        if argument.strip_suffix("=") == Some(word) {
+            return true;
+        }
+    }
+    false
+}
+
+/// What stands behind an option, in the same word or in the next one.
+pub fn value_behind<'w>(words: &'w [String], option: &str) -> Option<&'w str> {
+    let mut is_next = false;
+    for word in words {
+        if is_next {
+            return Some(word.as_str());
+        }
+        if let Some(rest) = word.strip_prefix(option) {
+            if let Some(value) = rest.strip_prefix("=") {
+                return Some(value);
+            }
+            is_next = rest.is_empty();
+        }
+    }
+    None
+}
+
+/// The words that are told by their place: no flag, nor what stands behind one that takes a word.
+pub fn placed_words<'w>(
+    alloc: Global,
+    tool: &str,
+    words: &'w [String],
+) -> Result<Vec<&'w str>, AllocError> {
+    let mut found = Vec::new(alloc);
+    let mut is_taken = false;
+    for word in words {
+        let word = word.as_str();
+        if !is_taken && !word.starts_with("-") {
+            found.push(word)?;
+        }
+        is_taken = takes_word(tool, word);
+    }
+    Ok(found)
+}
