@@ -1,7 +1,7 @@
 //! The files that the words of a tool for people name, and which it couldn't open.
 
-use crate::arguments::placed_words;
 use crate::instance::names_instance;
+use crate::tools::placed_words;
 use lus_devices::{Sink, write_all};
 use lus_many::is_many;
 use std::alloc::{AllocError, Global};

@@ -2,7 +2,7 @@
 
 ghost use Rattle.std.specs.Prelude.{None};
 
-use crate::arguments::{placed_words, takes_word, value_behind};
+use crate::tools::{placed_words, takes_word, value_behind};
 use crate::wrong_line::{Told, journal_line, replies};
 use itoa::Buffer;
 use lus_cli::lus_host::{Memory, ScriptRefusal};

@@ -3,20 +3,20 @@
 //! `lus_test`, `lus_lsp`, and `lus_bench`, which `bench/run` measures.
 #![tactic(auto)]
 
-mod arguments;
 mod files;
 mod instance;
 mod journal;
 mod mistaken;
 mod sections;
+mod tools;
 mod usage;
 mod wrong_line;
 
-use crate::arguments::arguments_of;
 use crate::files::{name_unopened, names_none};
 use crate::instance::{draw_instance, names_instance};
 use crate::journal::JournalFile;
 use crate::mistaken::{explain_order, explain_signal, explain_words};
+use crate::tools::arguments_of;
 use crate::usage::{introduce, was_introduced};
 use crate::wrong_line::{Told, explain_line, journal_line};
 use lus_bursts::{Counted, Waiting};

@@ -1,7 +1,7 @@
 //! Which argument of a tool for people is wrong, and what is near it.
 
-use crate::arguments::{arguments_of, value_behind};
 use crate::files::{named_files, opens};
+use crate::tools::{arguments_of, value_behind};
 use crate::wrong_line::read_line;
 use clap::{Arg, ArgAction, Command};
 use lus_cli::{bare, with_flag, with_optional, with_required, with_value};
