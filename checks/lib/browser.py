@@ -8,7 +8,7 @@ import shutil
 import subprocess
 import time
 
-LIMIT = 300.0  # seconds of any answer, also on a slow and busy machine
+LIMIT = 600.0  # seconds of any answer, also on a slow and busy machine
 CTRL = 2
 # No service of the browser's own goes to the network, and nothing looks for a graphics processor or a large /dev/shm.
 FLAGS = ["--headless=new", "--no-sandbox", "--no-first-run", "--disable-background-networking", "--disable-component-update", "--disable-sync",
