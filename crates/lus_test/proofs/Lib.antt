@@ -1,3 +1,4 @@
 pub mod Heads
 pub mod Ends
 pub mod Steps
+pub mod Claims
