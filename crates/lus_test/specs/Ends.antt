@@ -9,7 +9,7 @@ use Rattle.lus_cli.specs.Programs.{IsOfFile}
 use Rattle.lus_test.specs.Claims.{HaveHeld}
 use Rattle.lus_test.specs.CommandLine.{Asked, asked}
 use Rattle.lus_test.specs.Named.{IsClaim, IsNodeNamed}
-use Rattle.lus_test.specs.Options.{Wanted, wanted}
+use Rattle.lus_test.specs.Options.{Wanted, asked_claim}
 use Rattle.lus_test.specs.Tests.{Passes}
 use Rattle.lus_test.specs.declared.claims.Claim.{Claim}
 use Rattle.lus_test.specs.declared.finding.Finding.{Finding}
@@ -58,4 +58,4 @@ Holds known (Some w) = (p : Program) × IsOfFile (known w.program) p × HoldsIn 
 
 -- what the words ask for is so: of tables that they pass, of a claim that it holds
 abbrev pub IsWell : (Text → Known) → List Text → Type 0
-IsWell known words = AllPass known (asked words) ⊎ Holds known (wanted words)
+IsWell known words = AllPass known (asked words) ⊎ Holds known (asked_claim words)

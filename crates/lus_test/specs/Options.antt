@@ -46,8 +46,8 @@ said_of m =
     (count_in (Some 100) 1 1000000 (first_of (codes "steps") m)) (count_in (Some 1) 0 (2 ^ 64 - 1) (first_of (codes "seed") m)) (first_of (codes "node") m)
 
 -- what the words after the program's own name ask for, where they are well formed
-unfoldable pub wanted : List Text → Option Wanted
-wanted = asked_of claim_command said_of
+unfoldable pub asked_claim : List Text → Option Wanted
+asked_claim = asked_of claim_command said_of
 
 -- a task as plain data
 abbrev pub wanted_seen : StoredWanted → Wanted

@@ -5,7 +5,7 @@ ghost use Rattle.std.specs.Arc.{arc_value};
 ghost use Rattle.lus_cli.specs.CodeSpecs.Codes.{program_of};
 ghost use Rattle.lus_test.specs.Ends.{Holds, HoldsIn};
 ghost use Rattle.lus_test.specs.Failing.{WritesFailing};
-ghost use Rattle.lus_test.specs.Options.{wanted, wanted_seen};
+ghost use Rattle.lus_test.specs.Options.{asked_claim, wanted_seen};
 ghost use Rattle.lus_scripts.specs.Scripts.{place_of};
 ghost use Rattle.lus_test.specs.Tables.{output_columns};
 ghost use Rattle.lus_test.specs.Trials.{IsFailure, IsReady, program_in};
@@ -49,7 +49,13 @@ fn tell_found<O: Sink, F: Sink>(
     let line = failing_line(subject, wanted, run, row, &shrunk)?;
     let _ = write_all(faults, line.as_bytes());
     let rows = &shrunk.trial.rows;
-    let table = failing_table(subject.alloc, &subject.names, wanted.claim, shrunk.row, rows)?;
+    let table = failing_table(
+        subject.alloc,
+        &subject.names,
+        wanted.claim,
+        shrunk.row,
+        rows,
+    )?;
     write_text(output, &table)
 }
 
@@ -112,7 +118,7 @@ pub(crate) fn perform_claim<D: Folder, O: Sink, F: Sink>(
     output: &mut O,
     faults: &mut F,
 ) -> Result<u8, Fault>
-    ensures { IfOk result (λ status. status ≡ 0 → Holds (D.known folder.now) (wanted (map string_bytes words.now))) }
+    ensures { IfOk result (λ status. status ≡ 0 → Holds (D.known folder.now) (asked_claim (map string_bytes words.now))) }
 {
     let matches = read_options(alloc, words)?;
     let Some(wanted) = choose(&matches) else {

@@ -47,18 +47,14 @@ fn output_kind(program: &Arc<Program>, node: NodeId, name: &str) -> Option<Kind>
 }
 
 /// A claim of a node: the place of an output's column.
-#[derive(Clone, Copy, Debug)]
+#[derive(Clone, Copy)]
 pub(crate) struct Claim {
     pub node: NodeId,
     pub place: usize,
 }
 
 /// The claims of this name of all nodes.
-fn claims_named(
-    alloc: Global,
-    program: &Arc<Program>,
-    name: &str,
-) -> Result<Vec<Claim>, Memory>
+fn claims_named(alloc: Global, program: &Arc<Program>, name: &str) -> Result<Vec<Claim>, Memory>
     ensures { IfOk result (λ v. All (IsClaim (program_of (arc_value program.now)) name.now) v.items) }
 {
     let mut found = Vec::new(alloc);
@@ -71,16 +67,17 @@ fn claims_named(
     Ok(found)
 }
 
-/// Why outputs of these names have none of another name.
+/// That no output of these names has another name.
 fn no_output(
     alloc: Global,
-    who: &str,
-    columns: &[String],
+    unknown: &str,
     name: &str,
+    known: &str,
+    columns: &[String],
 ) -> Result<String, Memory> {
     let names = names_of(alloc, columns)?;
     let mut text = String::new(alloc);
-    push_unknown(&mut text, alloc, who, name, "; outputs are ", &names)?;
+    push_unknown(&mut text, alloc, unknown, name, known, &names)?;
     Ok(text)
 }
 
@@ -98,7 +95,8 @@ fn no_claim(
             let mut own = all_columns(alloc, program.source(), outputs)?;
             columns.append(&mut own)?;
         }
-        return no_output(alloc, "no node has an output ", &columns, name);
+        let known = "; outputs are ";
+        return no_output(alloc, "no node has an output ", name, known, &columns);
     }
     let mut nodes = Vec::new(alloc);
     for claim in claims {
@@ -136,7 +134,8 @@ fn claim_of_node(
         Some(place) => Ok(Claim { node, place }),
         None => {
             let columns = all_columns(alloc, program.source(), program.outputs(node))?;
-            let reason = no_output(alloc, "the node has no output ", &columns, name)?;
+            let known = "; its outputs are ";
+            let reason = no_output(alloc, "the node has no output ", name, known, &columns)?;
             Err(Problem::Lacks(reason))
         }
     }

@@ -14,17 +14,18 @@ use std::sync::Arc;
 
 /// The whole numbers that are drawn where no range is given.
 const LOW: i64 = -10;
+
 const HIGH: i64 = 10;
 
 /// That a row has a number under the column at a place.
-#[derive(Clone, Copy, Debug)]
+#[derive(Clone, Copy)]
 pub(crate) struct Condition {
     pub column: usize,
     pub number: i64,
 }
 
 /// A column of an input. Under it stand numbers: of a truth value 0 or 1, of a constructor its place among those of its type.
-#[derive(Debug, Drop)]
+#[derive(Drop)]
 pub(crate) struct Column {
     pub name: String,
     pub kind: Kind,
@@ -52,12 +53,7 @@ impl Column {
     }
 
     /// The word of the value that a number is.
-    pub(crate) fn word(
-        &self,
-        alloc: Global,
-        names: &Names,
-        number: i64,
-    ) -> Result<String, Memory> {
+    pub(crate) fn word(&self, alloc: Global, names: &Names, number: i64) -> Result<String, Memory> {
         let word = match self.kind {
             Kind::Bool if number == 0 => "false",
             Kind::Bool => "true",
@@ -85,8 +81,11 @@ fn field_kind(program: &Program, kind: Kind, name: &str) -> Kind {
 
 /// The type of a column of a variable of this type.
 pub(crate) fn column_kind(program: &Program, kind: Kind, column: &str) -> Kind {
+    let Some((_variable, path)) = column.split_once('.') else {
+        return kind;
+    };
     let mut found = kind;
-    for name in column.split('.').skip(1) {
+    for name in path.split('.') {
         found = field_kind(program, found, name);
     }
     found

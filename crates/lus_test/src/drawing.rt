@@ -17,11 +17,7 @@ fn number_in(low: i64, high: i64, word: u64) -> i64 {
 }
 
 /// A row of random numbers, one for each column.
-fn draw_row<R: Rng>(
-    alloc: Global,
-    columns: &[Column],
-    random: &mut R,
-) -> Result<Vec<i64>, Memory> {
+fn draw_row<R: Rng>(alloc: Global, columns: &[Column], random: &mut R) -> Result<Vec<i64>, Memory> {
     let mut row = Vec::new(alloc);
     for column in columns {
         row.push(number_in(column.low, column.high, random.next_u64()))?;

@@ -19,7 +19,7 @@ const MOST_STEPS: u64 = 1_000_000;
 const OPTIONS: [&str; 5] = ["--random", "--check", "--steps", "--seed", "--range"];
 
 /// So many runs from a seed, each of so many instants, of a node of a program, in which an output is to hold.
-#[derive(Clone, Copy, Debug)]
+#[derive(Clone, Copy)]
 pub(crate) struct Wanted<'a> {
     pub program: &'a str,
     /// The node's name, where it isn't the one that has the output.

@@ -63,7 +63,11 @@ fn no_node(alloc: Global, program: &Program, name: &str) -> Result<String, Memor
 }
 
 /// The node of a name.
-pub(crate) fn find_node(alloc: Global, program: &Arc<Program>, name: &str) -> Result<NodeId, Problem>
+pub(crate) fn find_node(
+    alloc: Global,
+    program: &Arc<Program>,
+    name: &str,
+) -> Result<NodeId, Problem>
     ensures named { IfOk result (λ node. node_named (program_of (arc_value program.now)) name.now ≡ Some node.0) }
     ensures within { IfOk result (λ node. node.0 < length (program_of (arc_value program.now)).nodes) }
 {
@@ -166,7 +170,13 @@ fn try_file<D: Folder, O: Sink, F: Sink>(
 }
 
 /// Writes pieces of a line. What can't be written changes no status.
-pub(crate) fn tell_line<F: Sink>(alloc: Global, faults: &mut F, file: &str, line: &str, reason: &str) {
+pub(crate) fn tell_line<F: Sink>(
+    alloc: Global,
+    faults: &mut F,
+    file: &str,
+    line: &str,
+    reason: &str,
+) {
     for piece in [file, line, reason, "\n"] {
         if let Ok(shown) = printable(alloc, piece.as_bytes()) {
             let _ = write_all(faults, shown.as_bytes());

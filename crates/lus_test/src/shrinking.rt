@@ -19,7 +19,7 @@ const ROUNDS: usize = 8;
 const HALVES: usize = 64;
 
 /// What is left of the instants that may be tried, and how many runs were kept.
-#[derive(Debug, Drop)]
+#[derive(Drop)]
 struct Tries {
     left: usize,
     kept: usize,

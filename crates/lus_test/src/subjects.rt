@@ -65,28 +65,22 @@ fn no_input(alloc: Global, columns: &[Column], name: &str) -> Result<String, Mem
     Ok(text)
 }
 
-/// The place of the column of a name.
-fn place_of(columns: &[Column], name: &str) -> Option<usize> {
-    columns
-        .iter()
-        .position(|column| column.name.as_str() == name)
-}
-
 /// Sets the range of the column that a text names.
 fn set_range(alloc: Global, columns: &mut Vec<Column>, text: &str) -> Result<(), Problem> {
     let Some((name, low, high)) = range_in(text) else {
         return Err(Problem::Words(no_range(alloc, text)?));
     };
-    let place = place_of(columns, name);
-    match place.and_then(|place| columns.get_mut(place)) {
-        Some(column) if column.kind == Kind::Int => {
+    for column in columns.iter_mut() {
+        if column.name.as_str() == name {
+            if column.kind != Kind::Int {
+                return Err(Problem::Lacks(no_number(alloc, name)?));
+            }
             column.low = low;
             column.high = high;
-            Ok(())
+            return Ok(());
         }
-        Some(_) => Err(Problem::Lacks(no_number(alloc, name)?)),
-        None => Err(Problem::Lacks(no_input(alloc, columns, name)?)),
     }
+    Err(Problem::Lacks(no_input(alloc, columns, name)?))
 }
 
 /// The names of columns as a record.

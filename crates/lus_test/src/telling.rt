@@ -129,13 +129,11 @@ pub(crate) fn failing_line(
 ) -> Result<String, Memory> {
     let mut text = String::from_str(subject.alloc, wanted.program)?;
     text.push_str(": ")?;
-    push_why(&mut text, subject, wanted.claim, shrunk, shrunk.why())?;
     let seed = wanted.seed;
     let instant = row.saturating_add(1);
-    write!(
-        text,
-        " in run {run} of seed {seed}, at instant {instant}; shrunk to "
-    )?;
+    write!(text, "run {run} of seed {seed}, instant {instant}: ")?;
+    push_why(&mut text, subject, wanted.claim, shrunk, shrunk.why())?;
+    text.push_str("; shrunk to ")?;
     push_count(&mut text, shrunk.numbers.len() as u64, "row")?;
     text.push_str("\n")?;
     Ok(text)
