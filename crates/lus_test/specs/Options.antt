@@ -43,7 +43,7 @@ wanted_by _ _ _ _ _ node = None
 abbrev pub said_of : List Row → Option Wanted
 said_of m =
     wanted_by (first_of (codes "PROGRAM") m) (first_of (codes "check") m) (count_in None 1 1000000000 (first_of (codes "random") m))
-    (count_in (Some 100) 1 1000000 (first_of (codes "steps") m)) (count_in (Some 1) 0 (2 ^ 64 - 1) (first_of (codes "seed") m)) (first_of (codes "node") m)
+    (count_in (Some 100) 1 100000 (first_of (codes "steps") m)) (count_in (Some 1) 0 (2 ^ 64 - 1) (first_of (codes "seed") m)) (first_of (codes "node") m)
 
 -- what the words after the program's own name ask for, where they are well formed
 unfoldable pub asked_claim : List Text → Option Wanted

@@ -1,6 +1,6 @@
 //! `lus_test PROGRAM TABLE..` tries a controller on tables of inputs and of the outputs that are expected, a row for each instant, and
-//! says of each table that it passes, or where it first doesn't. With `--write` it writes a table anew, with the outputs that come. With `--random`
-//! it tries an output that is to hold on random inputs.
+//! says of each table that it passes, or where it first doesn't. With `--write` it writes a table anew, with the outputs that come, and with
+//! `--random` it tries an output that is to hold on random inputs.
 #![tactic(auto)]
 
 mod claim_shell;

@@ -13,7 +13,7 @@ use std::alloc::{AllocError, Global};
 
 const MOST_RUNS: u64 = 1_000_000_000;
 
-const MOST_STEPS: u64 = 1_000_000;
+const MOST_STEPS: u64 = 100_000;
 
 /// The options that only claims have.
 const OPTIONS: [&str; 5] = ["--random", "--check", "--steps", "--seed", "--range"];
@@ -124,7 +124,7 @@ fn runs_in(matches: &ArgMatches<'_>) -> Option<u64>
 }
 
 fn steps_in(matches: &ArgMatches<'_>) -> Option<u64>
-    ensures { result ≡ count_in (Some 100) 1 1000000 (first_of (codes "steps") (rows_of (found_of matches.now))) }
+    ensures { result ≡ count_in (Some 100) 1 100000 (first_of (codes "steps") (rows_of (found_of matches.now))) }
 {
     count_in(value_of(matches, "steps"), Some(100), 1, MOST_STEPS)
 }

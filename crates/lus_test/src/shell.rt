@@ -1,12 +1,13 @@
 //! The command line over a folder.
 
-ghost use Rattle.std.specs.Prelude.{◌≡◌, ◌<◌, IfOk, Some, false, length, map, option_map, string_bytes, true};
+ghost use Rattle.std.specs.Prelude.{◌≡◌, ◌<◌, IfOk, OnOk, Some, false, length, map, option_map, string_bytes, true};
 ghost use Rattle.std.specs.Arc.{arc_value};
 ghost use Rattle.std.specs.List.{All};
 ghost use Rattle.csv.specs.Records.{fields_of};
 ghost use Rattle.lus_cli.specs.CodeSpecs.Codes.{program_of};
 ghost use Rattle.lus_cli.specs.MachineSpecs.Formals.{node_named};
 ghost use Rattle.lus_cli.specs.Programs.{IsOfFile};
+ghost use Rattle.lus_devices.specs.Devices.{with_text};
 ghost use Rattle.lus_devices.specs.Folders.{WithFile};
 ghost use Rattle.lus_test.specs.CommandLine.{asked, task_seen};
 ghost use Rattle.lus_test.specs.Ends.{AllPass, FilePasses, IsNamed, IsPassed, IsWell, TablePasses};
@@ -88,7 +89,10 @@ fn records_of<D: Folder>(alloc: Global, folder: &D, file: &str) -> Result<Vec<By
     Ok(read_records(alloc, &text)?)
 }
 
-pub(crate) fn write_text<O: Sink>(output: &mut O, text: &[u8]) -> Result<(), Problem> {
+/// Writes a text.
+pub(crate) fn write_text<O: Sink>(output: &mut O, text: &[u8]) -> Result<(), Problem>
+    ensures { OnOk result (O.written output.new ≡ with_text (O.written output.old) text.now) }
+{
     match write_all(output, text) {
         Ok(()) => Ok(()),
         Err(_) => Err(Problem::Fault(Fault::Output)),

@@ -10,7 +10,7 @@ use lus_values::Memory;
 use std::alloc::Global;
 
 /// The most instants of all runs that are tried.
-const MOST_INSTANTS: usize = 2_000_000;
+const MOST_INSTANTS: usize = 1_000_000;
 
 /// How often instants and then values are tried.
 const ROUNDS: usize = 8;
