@@ -1,5 +1,5 @@
 pub mod Heads
 pub mod Ends
 pub mod Steps
-pub mod Claims
+pub mod Held
 pub mod Trials

@@ -6,7 +6,7 @@ use Rattle.lus_test.specs.Trials.{HaveHeld, IsFailure, IsTrialOf, names_in, prog
 use Rattle.lus_test.specs.declared.failing.Failure.{Failure}
 use Rattle.lus_test.specs.declared.trial.Subject.{Subject}
 use Rattle.lus_test.specs.declared.trial.Trial.{Trial}
-use Rattle.lus_test.proofs.Claims.{none_yet, one_more, trial_held}
+use Rattle.lus_test.proofs.Held.{none_yet, one_more, trial_held}
 
 -- it is what came of a run of the node
 abbrev pub IsTrialHere : Subject → Trial → Type 0

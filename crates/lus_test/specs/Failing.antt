@@ -1,13 +1,11 @@
 -- The table of a run in which a claim fails, up to the row in which it does.
-use Rattle.std.specs.Prelude.{◌≡◌, ◌+◌, ◌++◌, ◌==◌, ℕ, List, [], ◌∷◌, map, codes, nat_le, if◌then◌else◌}
-use Rattle.csv.specs.Records.{fields_of}
+use Rattle.std.specs.Prelude.{◌≡◌, ◌+◌, ◌++◌, ◌==◌, ℕ, List, [], ◌∷◌, Option, Some, codes, nat_le, if◌then◌else◌}
 use Rattle.lus_values.specs.Names.{Text}
 use Rattle.lus_devices.specs.Devices.{Bytes, with_text}
 use Rattle.lus_records.specs.Outputs.{record_text}
 use Rattle.lus_program.specs.Programs.{Program}
 use Rattle.lus_requests.specs.declared.request.Request.{Request}
 use Rattle.lus_requests.specs.declared.request.Reply.{Reply}
-use Rattle.std.specs.Prelude.{Option, Some}
 use Rattle.lus_scripts.specs.Scripts.{place_of}
 use Rattle.lus_test.specs.Claims.{IsTrial}
 use Rattle.lus_test.specs.Tables.{output_columns}

@@ -20,12 +20,12 @@ use std::alloc::Global;
 fn push_with(
     alloc: Global,
     text: &mut Vec<u8>,
-    record: &ByteRecord,
+    line: &ByteRecord,
     last: &[u8],
 ) -> Result<(), Memory>
-    ensures { OnOk result (text.new.items ≡ text.old.items ++ record_text (fields_of record.now ++ last.now ∷ [])) }
+    ensures { OnOk result (text.new.items ≡ text.old.items ++ record_text (fields_of line.now ++ last.now ∷ [])) }
 {
-    let mut cells = cells_of(alloc, record)?;
+    let mut cells = cells_of(alloc, line)?;
     cells.push(last)?;
     push_record(alloc, text, &cells)
 }
@@ -43,12 +43,12 @@ fn push_row(
     text: &mut Vec<u8>,
     last: usize,
     row: usize,
-    record: &ByteRecord,
+    line: &ByteRecord,
 ) -> Result<(), Memory>
-    ensures { OnOk result (text.new.items ≡ text.old.items ++ failing_row last row (fields_of record.now)) }
+    ensures { OnOk result (text.new.items ≡ text.old.items ++ failing_row last row (fields_of line.now)) }
 {
     if row <= last {
-        return push_with(alloc, text, record, expected(last, row));
+        return push_with(alloc, text, line, expected(last, row));
     }
     Ok(())
 }
@@ -65,8 +65,8 @@ pub(crate) fn failing_table(
 {
     let mut text = Vec::new(alloc);
     push_with(alloc, &mut text, names, claim.as_bytes())?;
-    for (row, record) in rows.iter().enumerate() {
-        push_row(alloc, &mut text, last, row, record)?;
+    for (row, line) in rows.iter().enumerate() {
+        push_row(alloc, &mut text, last, row, line)?;
     }
     Ok(text)
 }
