@@ -13,7 +13,9 @@ pub fn arguments_of(tool: &str) -> Option<&'static str> {
         ),
         "lus_audit" => Some("--why --many PROGRAM JOURNAL [LOG]"),
         "lus_live" => Some("--json --csv --many --sync --caller= PROGRAM NODE [JOURNAL]"),
-        "lus_test" => Some("--write --node= PROGRAM TABLE.."),
+        "lus_test" => Some(
+            "--write --node= --random= --check= --steps= --seed= --range= PROGRAM TABLE..",
+        ),
         "lus_lsp" => Some("--stdio"),
         _ => None,
     }

@@ -87,6 +87,8 @@ Status: 0 all lines were calls, 1 the program is rejected, 2 a line is none, or 
 
 const TEST: &str = "usage: lus_test [--node NODE] PROGRAM TABLE..
        lus_test --write [--node NODE] PROGRAM TABLE
+       lus_test --random N --check OUTPUT [--node NODE] [--steps K] [--seed S]
+                [--range INPUT=LOW..HIGH].. PROGRAM
 
 Tries a node on tables of comma-separated values: the first line names inputs and outputs, and
 each row is an instant, with its inputs and the outputs that are expected. An empty cell is an
@@ -96,6 +98,14 @@ it. The node is what the name of TABLE has before its first dot, or
 
   --node NODE  this one
   --write      prints the table with the outputs that come in the place of those expected
+
+Or tries whether OUTPUT, a bool, is false at an instant of N runs of random inputs, or a step is
+refused. Such a run is made shorter and simpler, and printed as a table of the node, which is
+NODE or the one that has OUTPUT.
+
+  --steps K    the instants of each run, or 100
+  --seed S     a number that the inputs follow from, or 1
+  --range ..   the numbers of an input, or of a field x.f, or -10 to 10
 
 Status: 0 passed, 1 not passed, or the program is rejected, 2 a table isn't right, or has no
 node, 3 a file or the output fails, 4 out of memory; of several tables the greatest.

@@ -1,3 +1,5 @@
 pub mod Heads
 pub mod Ends
 pub mod Steps
+pub mod Held
+pub mod Trials

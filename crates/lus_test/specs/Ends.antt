@@ -1,13 +1,17 @@
 -- When the command ends with status 0.
-use Rattle.std.specs.Prelude.{◌≡◌, ℕ, false, [], Option, Some, None, unwrap_or, ⊤}
+use Rattle.std.specs.Prelude.{◌≡◌, ◌⊎◌, ℕ, List, false, [], Option, Some, None, unwrap_or, ⊤}
 use Rattle.std.specs.List.{All}
 use Rattle.lus_program.specs.Programs.{Program}
 use Rattle.lus_devices.specs.Folders.{Known, WithFile}
 use Rattle.lus_cli.specs.CommandLine.{Text}
 use Rattle.lus_cli.specs.MachineSpecs.Formals.{node_named}
 use Rattle.lus_cli.specs.Programs.{IsOfFile}
-use Rattle.lus_test.specs.CommandLine.{Asked}
+use Rattle.lus_test.specs.Claims.{HaveHeld}
+use Rattle.lus_test.specs.CommandLine.{Asked, asked}
+use Rattle.lus_test.specs.Named.{IsClaim, IsNodeNamed}
+use Rattle.lus_test.specs.Options.{Wanted, asked_claim}
 use Rattle.lus_test.specs.Tests.{Passes}
+use Rattle.lus_test.specs.declared.claims.Claim.{Claim}
 use Rattle.lus_test.specs.declared.finding.Finding.{Finding}
 use Rattle.lus_test.specs.declared.finding.Finding.TheVariants.{Passed, Refused, Differs}
 
@@ -35,3 +39,23 @@ abbrev pub AllPass : (Text → Known) → Option Asked → Type 0
 AllPass known None = ⊥
 AllPass known (Some asked) = asked.is_written ≡ false
     → (p : Program) × IsOfFile (known asked.program) p × All (TablePasses known p asked.node) (unwrap_or asked.tables [])
+
+-- ---- claims
+
+-- an output of a node of a program holds in so many runs, each of so many instants
+pub record HoldsIn (p : Program) (w : Wanted) : Type 0 where
+  pub claim : Claim
+  pub named : IsNodeNamed p w.node claim.node.0
+  pub is_claim : IsClaim p w.claim claim
+  pub held : HaveHeld p claim.node.0 claim.place w.runs w.steps
+
+-- the same of the program of a file
+abbrev pub Holds : (Text → Known) → Option Wanted → Type 0
+Holds known None = ⊥
+Holds known (Some w) = (p : Program) × IsOfFile (known w.program) p × HoldsIn p w
+
+-- ---- all
+
+-- what the words ask for is so: of tables that they pass, of a claim that it holds
+abbrev pub IsWell : (Text → Known) → List Text → Type 0
+IsWell known words = AllPass known (asked words) ⊎ Holds known (asked_claim words)

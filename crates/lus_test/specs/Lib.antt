@@ -3,4 +3,9 @@ pub mod Tables
 pub mod Findings
 pub mod Filling
 pub mod Tests
+pub mod Claims
+pub mod Named
+pub mod Trials
+pub mod Failing
+pub mod Options
 pub mod Ends

@@ -67,7 +67,7 @@ fn slices_of(alloc: Global, cells: &[Vec<u8>]) -> Result<Vec<&[u8]>, Memory>
 }
 
 /// Appends the record of these cells.
-fn push_record(alloc: Global, text: &mut Vec<u8>, cells: &[&[u8]]) -> Result<(), Memory>
+pub(crate) fn push_record(alloc: Global, text: &mut Vec<u8>, cells: &[&[u8]]) -> Result<(), Memory>
     ensures { OnOk result (text.new.items ≡ text.old.items ++ record_text (map (λ t. t.now) cells.now)) }
 {
     let Ok(record) = record_bytes(alloc, cells) else {

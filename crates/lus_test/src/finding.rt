@@ -83,7 +83,7 @@ fn place_among(columns: &[String], name: &[u8]) -> Option<usize>
 }
 
 /// The place of the column of a name.
-fn column_of(columns: &[String], name: &[u8]) -> Option<usize>
+pub(crate) fn column_of(columns: &[String], name: &[u8]) -> Option<usize>
     ensures { result ≡ place_of (map string_bytes columns.now) name.now }
 {
     place_among(columns, name)

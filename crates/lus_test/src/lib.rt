@@ -1,18 +1,29 @@
 //! `lus_test PROGRAM TABLE..` tries a controller on tables of inputs and of the outputs that are expected, a row for each instant, and
-//! says of each table that it passes, or where it first doesn't. With `--write` it writes a table anew, with the outputs that come.
+//! says of each table that it passes, or where it first doesn't. With `--write` it writes a table anew, with the outputs that come, and with
+//! `--random` it tries an output that is to hold on random inputs.
 #![tactic(auto)]
 
+mod claim_shell;
+mod claims;
+mod columns;
+mod drawing;
 mod error;
+mod failing;
 mod filling;
 mod finding;
 mod grid;
+mod options;
 mod problem;
 mod reading;
 mod report;
 mod running;
 mod shell;
+mod shrinking;
+mod subjects;
 mod table;
+mod telling;
 mod testing;
+mod trial;
 mod words;
 
 pub use error::TableError;

@@ -11,8 +11,10 @@ use lus_values::Memory;
 pub(crate) enum Problem {
     /// Its file or the output failed, or memory was wanting.
     Fault(Fault),
-    /// The program has no such node: the names of those that there are.
-    Node(String),
+    /// The program lacks what is named, a node, an output or an input: which, and what is near it.
+    Lacks(String),
+    /// What an option should have, and what is given.
+    Words(String),
     /// What stands on this line is no head or no row.
     Line(u64, String),
     /// The file has more bytes than a table may have.

@@ -1,19 +1,22 @@
 //! The command line over a folder.
 
-ghost use Rattle.std.specs.Prelude.{◌≡◌, ◌<◌, IfOk, Some, false, length, map, option_map, string_bytes, true};
+ghost use Rattle.std.specs.Prelude.{◌≡◌, ◌<◌, IfOk, OnOk, Some, false, length, map, option_map, string_bytes, true};
 ghost use Rattle.std.specs.Arc.{arc_value};
 ghost use Rattle.std.specs.List.{All};
 ghost use Rattle.csv.specs.Records.{fields_of};
 ghost use Rattle.lus_cli.specs.CodeSpecs.Codes.{program_of};
 ghost use Rattle.lus_cli.specs.MachineSpecs.Formals.{node_named};
 ghost use Rattle.lus_cli.specs.Programs.{IsOfFile};
+ghost use Rattle.lus_devices.specs.Devices.{with_text};
 ghost use Rattle.lus_devices.specs.Folders.{WithFile};
 ghost use Rattle.lus_test.specs.CommandLine.{asked, task_seen};
-ghost use Rattle.lus_test.specs.Ends.{AllPass, FilePasses, IsNamed, IsPassed, TablePasses};
+ghost use Rattle.lus_test.specs.Ends.{AllPass, FilePasses, IsNamed, IsPassed, IsWell, TablePasses};
 ghost use Rattle.lus_test.specs.Tables.{AreRecordsOf};
 
+use crate::claim_shell::perform_claim;
 use crate::filling::filled;
 use crate::finding::Finding;
+use crate::options::is_trial;
 use crate::problem::{Problem, problem_of};
 use crate::reading::read_records;
 use crate::report::Report;
@@ -61,13 +64,17 @@ fn no_node(alloc: Global, program: &Program, name: &str) -> Result<String, Memor
 }
 
 /// The node of a name.
-fn find_node(alloc: Global, program: &Arc<Program>, name: &str) -> Result<NodeId, Problem>
+pub(crate) fn find_node(
+    alloc: Global,
+    program: &Arc<Program>,
+    name: &str,
+) -> Result<NodeId, Problem>
     ensures named { IfOk result (λ node. node_named (program_of (arc_value program.now)) name.now ≡ Some node.0) }
     ensures within { IfOk result (λ node. node.0 < length (program_of (arc_value program.now)).nodes) }
 {
     match program.node(name) {
         Some(node) => Ok(node),
-        None => Err(Problem::Node(no_node(alloc, program, name)?)),
+        None => Err(Problem::Lacks(no_node(alloc, program, name)?)),
     }
 }
 
@@ -82,7 +89,10 @@ fn records_of<D: Folder>(alloc: Global, folder: &D, file: &str) -> Result<Vec<By
     Ok(read_records(alloc, &text)?)
 }
 
-fn write_text<O: Sink>(output: &mut O, text: &[u8]) -> Result<(), Problem> {
+/// Writes a text.
+pub(crate) fn write_text<O: Sink>(output: &mut O, text: &[u8]) -> Result<(), Problem>
+    ensures { OnOk result (O.written output.new ≡ with_text (O.written output.old) text.now) }
+{
     match write_all(output, text) {
         Ok(()) => Ok(()),
         Err(_) => Err(Problem::Fault(Fault::Output)),
@@ -164,7 +174,13 @@ fn try_file<D: Folder, O: Sink, F: Sink>(
 }
 
 /// Writes pieces of a line. What can't be written changes no status.
-fn tell_line<F: Sink>(alloc: Global, faults: &mut F, file: &str, line: &str, reason: &str) {
+pub(crate) fn tell_line<F: Sink>(
+    alloc: Global,
+    faults: &mut F,
+    file: &str,
+    line: &str,
+    reason: &str,
+) {
     for piece in [file, line, reason, "\n"] {
         if let Ok(shown) = printable(alloc, piece.as_bytes()) {
             let _ = write_all(faults, shown.as_bytes());
@@ -173,7 +189,7 @@ fn tell_line<F: Sink>(alloc: Global, faults: &mut F, file: &str, line: &str, rea
 }
 
 /// Says why a table isn't tried, and gives the status.
-fn explain<F: Sink>(alloc: Global, faults: &mut F, file: &str, problem: Problem) -> u8
+pub(crate) fn explain<F: Sink>(alloc: Global, faults: &mut F, file: &str, problem: Problem) -> u8
     ensures { result ≡ 0 → ⊥ }
 {
     match problem {
@@ -182,7 +198,8 @@ fn explain<F: Sink>(alloc: Global, faults: &mut F, file: &str, problem: Problem)
             let _ = write_all(faults, b": ");
             return tell(faults, fault);
         }
-        Problem::Node(reason) => tell_line(alloc, faults, file, ": ", &reason),
+        Problem::Lacks(reason) => tell_line(alloc, faults, file, ": ", &reason),
+        Problem::Words(reason) => tell_line(alloc, faults, "lus_test", ": ", &reason),
         Problem::Line(number, reason) => {
             if let Ok(line) = format!(in alloc; ":{number}: ") {
                 tell_line(alloc, faults, file, &line, &reason);
@@ -291,8 +308,8 @@ fn perform<D: Folder, O: Sink, F: Sink>(
     ))
 }
 
-/// Reads the words, and does what they ask for: the status.
-fn perform_words<D: Folder, O: Sink, F: Sink>(
+/// Reads the words, and tries the tables that they name: the status.
+fn perform_tables<D: Folder, O: Sink, F: Sink>(
     alloc: Global,
     folder: &D,
     words: &[String],
@@ -305,10 +322,28 @@ fn perform_words<D: Folder, O: Sink, F: Sink>(
     perform(alloc, folder, &task, output, faults)
 }
 
+/// Reads the words, and does what they ask for: the status.
+fn perform_words<D: Folder, O: Sink, F: Sink>(
+    alloc: Global,
+    folder: &D,
+    words: &[String],
+    output: &mut O,
+    faults: &mut F,
+) -> Result<u8, Fault>
+    ensures { IfOk result (λ status. status ≡ 0 → IsWell (D.known folder.now) (map string_bytes words.now)) }
+{
+    if is_trial(words) {
+        perform_claim(alloc, folder, words, output, faults)
+    } else {
+        perform_tables(alloc, folder, words, output, faults)
+    }
+}
+
 /// Tries nodes of a program on the tables that the words name, and says of each that it passes, or where it first doesn't; with `--write`
-/// writes the one table anew, with the outputs that come. Gives the status of the process: 0 where each table passes, or no row of the one
-/// that is written is refused; 1 where one doesn't, or the program is rejected; 2 where the words are unknown or missing, or a table has a
-/// wrong line or no node; 3 where a file or the output fails, and 4 where memory is out; of several tables the greatest.
+/// writes the one table anew, with the outputs that come; with `--random` tries an output on random inputs, and says that it holds, or
+/// writes the table of a run in which it doesn't. Gives the status of the process: 0 where each table passes, no row of the one that is
+/// written is refused, or the output holds; 1 where one doesn't, or the program is rejected; 2 where the words are unknown or missing, or
+/// a table has a wrong line or no node; 3 where a file or the output fails, and 4 where memory is out; of several tables the greatest.
 pub fn command<D: Folder, O: Sink, F: Sink>(
     alloc: Global,
     folder: &D,
@@ -316,7 +351,7 @@ pub fn command<D: Folder, O: Sink, F: Sink>(
     output: &mut O,
     faults: &mut F,
 ) -> u8
-    ensures { result ≡ 0 → AllPass (D.known folder.now) (asked (map string_bytes words.now)) }
+    ensures { result ≡ 0 → IsWell (D.known folder.now) (map string_bytes words.now) }
 {
     match perform_words(alloc, folder, words, output, faults) {
         Ok(status) => status,
