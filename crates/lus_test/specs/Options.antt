@@ -36,9 +36,9 @@ count_in other least most None = other
 count_in other least most (Some text) = between least most (number_below (2 ^ 64) text)
 
 abbrev pub wanted_by : Option Text → Option Text → Option ℕ → Option ℕ → Option ℕ → Option Text → Option Wanted
-wanted_by (Some program) (Some claim) (Some runs) (Some steps) (Some seed) node =
-    Some (record { program = program; node = node; claim = claim; runs = runs; steps = steps })
-wanted_by _ _ _ _ _ node = None
+wanted_by (Some program) (Some claim) (Some runs) (Some steps) (Some seed) of_node =
+    Some (record { program = program; node = of_node; claim = claim; runs = runs; steps = steps })
+wanted_by _ _ _ _ _ of_node = None
 
 abbrev pub said_of : List Row → Option Wanted
 said_of m =

@@ -37,7 +37,7 @@ fn tell_found<O: Sink, F: Sink>(
 ) -> Result<(), Problem>
     requires ready { IsReady subject.now }
     requires fails { IsFailure subject.now found.failure }
-    requires named { Some subject.now.claim ≡ place_of (output_columns (program_in subject.now) subject.now.node.0) wanted.entry.claim.now }
+    requires named { Some subject.now.claim ≡ place_of (output_columns (program_in subject.now) subject.now.node.0) wanted.claim.now }
     ensures { OnOk result (WritesFailing (program_in subject.now) wanted.entry.claim.now (O.written output.old) (O.written output.new)) }
 {
     let Found { run, failure } = found;
@@ -56,7 +56,8 @@ fn tell_found<O: Sink, F: Sink>(
         shrunk.row,
         rows,
     )?;
-    write_text(output, &table)
+    write_text(output, &table)?;
+    Ok(())
 }
 
 /// Tries a claim of a program: whether it held.
@@ -75,17 +76,18 @@ fn try_claim<O: Sink, F: Sink>(
     let claim = find_claim(alloc, program, wanted.node, wanted.claim)?;
     let subject = subject_of(alloc, program, claim, ranges)?;
     let mut random = Xoshiro256PlusPlus::seed_from_u64(wanted.seed);
-    let found = match first_failing(&subject, wanted.runs, wanted.steps, &mut random) {
-        Ok(found) => found,
-        Err(error) => return Err(problem_of(error, &[])),
-    };
-    let Some(found) = found else {
-        let line = held_line(alloc, wanted)?;
-        write_text(output, line.as_bytes())?;
-        return Ok(true);
-    };
-    tell_found(&subject, wanted, found, output, faults)?;
-    Ok(false)
+    match first_failing(&subject, wanted.runs, wanted.steps, &mut random) {
+        Ok(None) => {
+            let line = held_line(alloc, wanted)?;
+            write_text(output, line.as_bytes())?;
+            Ok(true)
+        }
+        Ok(Some(found)) => {
+            tell_found(&subject, wanted, found, output, faults)?;
+            Ok(false)
+        }
+        Err(error) => Err(problem_of(error, &[])),
+    }
 }
 
 /// Reads the program of a claim and tries it: the status.

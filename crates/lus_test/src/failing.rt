@@ -63,9 +63,12 @@ pub(crate) fn first_failing<R: Rng>(
     for run in 0..runs {
         let numbers = draw_rows(subject.alloc, &subject.columns, steps, random)?;
         let trial = subject.run(&numbers)?;
-        if let Some(failure) = failure_of(numbers, trial) {
-            let run = run.saturating_add(1);
-            return Ok(Some(Found { run, failure }));
+        match failure_of(numbers, trial) {
+            Some(failure) => {
+                let run = run.saturating_add(1);
+                return Ok(Some(Found { run, failure }));
+            }
+            None => {}
         }
     }
     Ok(None)

@@ -242,7 +242,7 @@ pub(crate) fn shrink(subject: &Subject<'_>, failure: Failure) -> Result<Failure,
         failure = drop_instants(subject, failure, &mut tries)?;
         failure = simplify_numbers(subject, failure, &mut tries)?;
         if tries.kept == kept {
-            break;
+            return Ok(failure);
         }
     }
     Ok(failure)

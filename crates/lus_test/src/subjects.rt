@@ -99,7 +99,7 @@ pub(crate) fn subject_of<'p>(
     claim: Claim,
     ranges: &[&str],
 ) -> Result<Subject<'p>, Problem>
-    requires { claim.node.0 < length (program_of (arc_value program.entry.now)).nodes }
+    requires { claim.node.0 < length (program_of (arc_value program.now)).nodes }
     ensures ready { IfOk result IsReady }
     ensures same { IfOk result (IsSubjectOf (program_of (arc_value program.entry.now)) claim) }
 {
