@@ -85,27 +85,19 @@ Status: 0 all lines were calls, 1 the program is rejected, 2 a line is none, or 
 3 and 4 as lus.
 ";
 
-const TEST: &str = "usage: lus_test [--node NODE] PROGRAM TABLE..
-       lus_test --write [--node NODE] PROGRAM TABLE
+const TEST: &str = "usage: lus_test [--write] [--node NODE] PROGRAM TABLE..
        lus_test --random N --check OUTPUT [--node NODE] [--steps K] [--seed S]
                 [--range INPUT=LOW..HIGH].. PROGRAM
 
-Tries a node on tables of comma-separated values: the first line names inputs and outputs, and
-each row is an instant, with its inputs and the outputs that are expected. An empty cell is an
-absent input, or asks nothing of an output; a dash asks that it is absent. Says of each TABLE
-that it passes, or which output of which row is the first that is another, with the rows before
-it. The node is what the name of TABLE has before its first dot, or
+Tries a node, NODE or the one whose name TABLE has before its first dot, on comma-separated
+values: a line of names of inputs and outputs, then a row for each instant. An empty cell is an
+absent input, or an output of which nothing is asked; `-` asks for an absent one.
 
-  --node NODE  this one
-  --write      prints the table with the outputs that come in the place of those expected
-
-Or tries whether OUTPUT, a bool, is false at an instant of N runs of random inputs, or a step is
-refused. Such a run is made shorter and simpler, and printed as a table of the node, which is
-NODE or the one that has OUTPUT.
-
-  --steps K    the instants of each run, or 100
-  --seed S     a number that the inputs follow from, or 1
-  --range ..   the numbers of an input, or of a field x.f, or -10 to 10
+  --write   print the one TABLE with the outputs that come in place of those expected
+  --random  try whether OUTPUT is false, or a step refused, in N runs of random inputs, and print
+            such a run, made short and simple, as a table of NODE or of the node with OUTPUT
+  --steps   the instants of a run, or 100; --seed: the number that all inputs follow from, or 1
+  --range   the numbers of an input, or of a field x.f, or -10 to 10
 
 Status: 0 passed, 1 not passed, or the program is rejected, 2 a table isn't right, or has no
 node, 3 a file or the output fails, 4 out of memory; of several tables the greatest.
