@@ -56,6 +56,7 @@ pub fn emit_classes(
     requires size { length parts.old ≡ length classes.now }
     requires few { AreFew classes.now }
     requires many { length classes.now < 2 ^ 32 }
+    ensures size { IfOk result (λ emitted. length emitted.items ≡ length classes.now) }
     ensures framed { IfOk result (λ emitted. AreFramed emitted.items) }
     ensures code { IfOk result (λ emitted. PassGiven classes.now → HaveCode classes.now emitted.items) }
 {

@@ -4,11 +4,12 @@ use Rattle.std.proofs.lemmas.List.{get_or_default, length-map}
 use Rattle.std.proofs.lemmas.Option.{same_Some, slice_get_read}
 use Rattle.lus_values.specs.Lists.{Each}
 use Rattle.lus_graph.specs.Ways.{IsOrder}
+use Rattle.lus_classes.specs.Parts.{ArePartsOf}
 use Rattle.lus_instructions.specs.declared.class.Class.{Class}
 use Rattle.lus_instructions.specs.declared.class.Part.{Part}
 use Rattle.lus_orders.specs.declared.class.Class.{Class as Emitted}
 use Rattle.lus_emission.specs.Made.{CanBeCounted, IsEmitted}
-use Rattle.lus_emission.specs.Sources.{ArePartsOf, class_uses, nodes_of}
+use Rattle.lus_emission.specs.Sources.{class_uses, nodes_of}
 use Rattle.lus_emission.proofs.Underway.{IsUnderway, all_code, all_framed, next_calls, next_counted, next_parts, underway_first, underway_step}
 use Rattle.lus_emission.proofs.classes.emit_classes.Goals as goal
 
@@ -62,7 +63,6 @@ emit_class-requires c =
     let can = c.requires.classes x k here in
     record {
       turns = can.turns;
-      once = can.once;
       wide = can.wide;
       parts = subst (λ (ps : Vec Part Global). ArePartsOf k ps.items) same own.are;
       calls = subst (λ (es : List Emitted). Each (λ q. q.node < length es) k.calls.items) (sym c.deref.ensures.value)
@@ -95,6 +95,7 @@ returns c =
     let whole = take_all l.place-index order (omega arith) in
     let is = subst (IsUnderway c.args.classes.now few.counts c.args.parts.now l.emitted.items l.parts) whole (l.invariant few) in
     record {
+      size = is.size;
       framed = all_framed c.args.classes.now few.counts c.args.parts.now l.emitted.items l.parts order is c.requires.classes (all_in_order c.args.classes.now order c.requires.order);
       code = all_code c.args.classes.now few.counts c.args.parts.now l.emitted.items l.parts order is c.requires.classes (all_in_order c.args.classes.now order c.requires.order);
     }
