@@ -21,4 +21,6 @@ returns-clause-calls c =
     rw (numbers, c.new.ensures.items) at c.in_ok-make_turns.ensures.made
 
 pub returns-clause-parts : goal.returns-clause-parts
-returns-clause-parts c = λ keeping. record { make = c.in_ok-parts.ensures.make; stay = c.in_ok-parts.ensures.stay _ _ keeping }
+returns-clause-parts c = λ keeping.
+    let made = rw (c.deref-2.ensures.value, c.deref-3.ensures.value) at c.in_ok-parts.ensures in
+    record { make = made.make; stay = made.stay _ _ keeping }
