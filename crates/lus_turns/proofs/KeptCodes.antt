@@ -1,5 +1,5 @@
 -- The codes of a class that belongs to a node keep to its memories and first-flags.
-use Rattle.std.proofs.Common.{◌≡◌, ℕ, suc, List, length, Option, Some, None, sym, subst, ⊎_elim}
+use Rattle.std.proofs.Common.{ℕ, suc, List, length, Option, Some, None, sym, subst, ⊎_elim}
 use Rattle.std.proofs.lemmas.Option.{slice_get_within}
 use Rattle.lus_values.specs.Lists.{Each}
 use Rattle.lus_program.specs.Programs.{Expression, literal, variable, operate, pre, arrow, when, merge, Operands, none, more, Node, Program}
