@@ -1,6 +1,5 @@
-use Rattle.std.proofs.Common.{◌≡◌, ◌∙◌, map, sym, ap, arith}
+use Rattle.std.proofs.Common.{◌≡◌, ◌∙◌, map, ap}
 use Rattle.std.proofs.lemmas.List.{take_all}
-use Rattle.lus_classes.specs.View.{atom_of}
 use Rattle.lus_instructions.specs.declared.class.Argument.{Argument}
 use Rattle.lus_emission.specs.Calls.{seen_argument}
 use Rattle.lus_emission.proofs.Adding.{made_next}
