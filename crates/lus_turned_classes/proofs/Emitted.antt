@@ -1,12 +1,11 @@
 -- What the code of classes asks of them.
-use Rattle.std.proofs.Common.{◌≡◌, ◌∙◌, ◌+◌, ◌^◌, ◌<◌, ◌≤◌, ℕ, List, [], ◌∷◌, ◌++◌, map, length, Option, Some, None, slice_get, sym, ap, subst, arith, ⊎_elim}
+use Rattle.std.proofs.Common.{◌≡◌, ◌∙◌, ◌+◌, ◌^◌, ◌<◌, ◌≤◌, ℕ, List, [], ◌∷◌, ◌++◌, map, length, Option, Some, None, slice_get, sym, ap, subst, ⊎_elim}
 use Rattle.std.specs.Prelude.{option_map}
 use Rattle.std.proofs.lemmas.List.{length-map}
 use Rattle.std.proofs.lemmas.Option.{slice_get-map}
-use Rattle.lus_values.specs.Lists.{item, Each}
+use Rattle.lus_values.specs.Lists.{Each}
 use Rattle.lus_values.proofs.Lists.{each_found, each_left, each_right}
 use Rattle.lus_program.specs.Programs.{Node, Program, node_at}
-use Rattle.lus_streams.specs.Clocks.{clock_of}
 use Rattle.lus_streams.specs.Equations.{Definition, given_by, definition_of}
 use Rattle.lus_streams.proofs.Lists.{each_implies}
 use Rattle.lus_classes.specs.Classes.{Call as PlainCall, answer}
@@ -22,7 +21,7 @@ use Rattle.lus_instructions.specs.declared.class.Target.{Target}
 use Rattle.lus_turns.specs.Turned.{AreTurned, CallsNode, IsTurned}
 use Rattle.lus_turns.proofs.CallsMade.{no_answer}
 use Rattle.lus_emission.specs.Sources.{Answers, CallsClass, CanBeEmitted, TakesOut}
-use Rattle.lus_turned_classes.specs.Laws.{AreNarrow, TurnedCanBeEmitted}
+use Rattle.lus_turned_classes.specs.Laws.{TurnedCanBeEmitted}
 use Rattle.lus_turned_classes.proofs.Found.{class_of_call, item_found}
 
 module _ (p : Program) (classes : List Class) (are : AreTurned p classes) where
@@ -72,8 +71,7 @@ module _ (p : Program) (classes : List Class) (are : AreTurned p classes) where
     all_answer [] some h = tt
     all_answer (steps.Give x d ∷ ss) some h = (tt, all_answer ss some.1 h.1)
     all_answer (steps.Call n ts ∷ ss) some h =
-        let there = item_found c.calls.items n some.0.0 in
-        (
+        let there = item_found c.calls.items n some.0.0 in (
           (there.0, there.1, takes_out n there.0 there.1 ts.items (each_left (IsStep p f (class_of c)) (map (taken n) ts.items) (steps_of ss) h)),
           all_answer ss some.1 (each_right (IsStep p f (class_of c)) (map (taken n) ts.items) (steps_of ss) h),
         )

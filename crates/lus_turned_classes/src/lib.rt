@@ -3,6 +3,4 @@
 
 mod laws;
 
-pub use laws::{
-    code_makes_class_steps, code_nests, turned_can_be_emitted, turned_pass_given,
-};
+pub use laws::{code_makes_class_steps, code_nests, turned_can_be_emitted, turned_pass_given};
