@@ -25,10 +25,13 @@ pub(crate) struct Hosted {
     pub(crate) last: Option<Entry>,
 }
 
-/// The entry of a request and its reply, where there is memory for it.
-fn recall(alloc: Global, request: &Request, reply: &Reply) -> Option<Entry>
+/// The entry of a request and its reply, where that is kept and there is memory for it.
+fn recall(recalls: bool, alloc: Global, request: &Request, reply: &Reply) -> Option<Entry>
     ensures { IfSome result (λ e. e ≡ entry_of request.now reply.now) }
 {
+    if !recalls {
+        return None;
+    }
     Some(Entry {
         caller: 0,
         request: request.copy(alloc).ok()?,
@@ -43,11 +46,7 @@ impl Reacts for Hosted {
 
     fn call(&mut self, request: &Request) -> Result<Reply, Memory> {
         let reply = self.instance.call(request)?;
-        self.last = if self.recalls {
-            recall(self.alloc, request, &reply)
-        } else {
-            None
-        };
+        self.last = recall(self.recalls, self.alloc, request, &reply);
         Ok(reply)
     }
 }
