@@ -42,6 +42,11 @@ module _ (p : Program) (f : ℕ) where
   }
   seen_as S T false left found from w = w
 
+  -- what is found with what was seen is found with more
+  pub found_as : (S T : List LogLine → Type 0) (is_lawful : Bool) (text : Text) (bytes : Bytes)
+      → (is_lawful ≡ true → (lines : List LogLine) → S lines → T lines) → IsLogFound p f S is_lawful text bytes → IsLogFound p f T is_lawful text bytes
+  found_as S T is_lawful text bytes from found = (seen_as S T is_lawful (Some bytes) text from found.0, found.1)
+
   -- lines of a lawful log were seen
   lines_seen : (S : List LogLine → Type 0) (is_lawful : Bool) (left : Option Bytes) (found : Text) → is_lawful ≡ true
       → HasAuditedLog p f S is_lawful left found → (lines : List LogLine) × S lines
@@ -54,7 +59,7 @@ module _ (p : Program) (f : ℕ) where
   reported_plain S is_lawful text bytes found = record {
     found = text;
     reasons = [];
-    is = (seen_as S (λ lines. [] ≡ []) is_lawful (Some bytes) text (λ lawful lines seen. refl) found.0, found.1);
+    is = found_as S (λ lines. [] ≡ []) is_lawful text bytes (λ lawful lines seen. refl) found;
     wrong = λ wrong. refl;
     reported = sym (append-nil text);
   }
@@ -66,7 +71,7 @@ module _ (p : Program) (f : ℕ) where
   reported_with S true text reasons report bytes found tells is = record {
     found = text;
     reasons = reasons;
-    is = (seen_as S (λ lines. TellsLog p f lines reasons) true (Some bytes) text tells found.0, found.1);
+    is = found_as S (λ lines. TellsLog p f lines reasons) true text bytes tells found;
     wrong = λ wrong. absurd (true≢false wrong);
     reported = is;
   }

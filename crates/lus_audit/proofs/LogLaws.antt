@@ -2,7 +2,9 @@
 use Rattle.std.proofs.Common.{◌≡◌, ◌∙◌, ◌+◌, ◌++◌, ℕ, Bool, true, false, cond, refl, ap, sym, subst, List, [], ◌∷◌, length, Option, Some, None, IsTrue, append-nil, string_bytes}
 use Rattle.std.specs.Str.{bytes_eq}
 use Rattle.std.proofs.lemmas.Slice.Eq.{bytes_eq-Decides}
-use Rattle.indexmap.specs.IndexMap.{get_by_text}
+use Rattle.std.specs.Map.{lookup}
+use Rattle.std.specs.Prelude.{String}
+use Rattle.indexmap.specs.IndexMap.{IndexMap, get_by_text}
 use Rattle.lus_values.specs.Names.{Names, Text}
 use Rattle.lus_program.specs.Programs.{Program}
 use Rattle.lus_printable.specs.Printable.{printable}
@@ -35,6 +37,10 @@ history_other name lines l other = ap (entries_of name) (behind_more [] lines (L
 
 history_note : (name : Text) (lines : List LogLine) (t : Text) → history_in name (lines ++ LogNote t ∷ []) ≡ history_in name lines
 history_note name lines t = ap (entries_of name) (behind_more [] lines (LogNote t) ∙ append-nil (entries_in lines))
+
+-- none is named where none is
+pub none_named : {Y S : Type 0} (m : IndexMap (String Y) Explainer S) → m.entries ≡ [] → (name : Text) → get_by_text m name ≡ None
+none_named m bare name = ap (lookup (λ k. bytes_eq name (string_bytes k))) bare
 
 module _ (p : Program) (f : ℕ) where
   -- ---- what is kept of instances
