@@ -1,6 +1,6 @@
 //! Auditing a log.
 
-ghost use Rattle.std.specs.Prelude.{◌≡◌, ◌++◌, ◌<◌, ◌∷◌, [], IfErr, IfOk, List, OnOk, codes, false, length, string_bytes, true};
+ghost use Rattle.std.specs.Prelude.{◌≡◌, ◌+◌, ◌++◌, ◌<◌, ◌∷◌, [], IfErr, IfOk, List, OnOk, codes, false, length, string_bytes, true};
 ghost use Rattle.std.specs.Fmt.{decimal};
 ghost use Rattle.std.specs.Arc.{arc_value};
 ghost use Rattle.lus_lawful.specs.Errors.{BlamesIf, IsOutside};

@@ -11,7 +11,7 @@ use Rattle.lus_hosting.proofs.auditing.audit_log.Goals as goal
 use Rattle.lus_hosting.proofs.auditing.audit_log.Goals.{in-Noted, in-Right}
 
 pub loop-lines-init : goal.loop-lines-init
-loop-lines-init g c = observed_start _ _ _ _ (λ seen. seen) _ (none_named c.no_instances.result c.no_instances.ensures)
+loop-lines-init g c = observed_start _ _ _ _ (λ seen. seen) _ (none_named c.no_instances-instances.result c.no_instances-instances.ensures)
 
 pub loop-lines-preserved : goal.loop-lines-preserved
 loop-lines-preserved g c =
