@@ -15,7 +15,7 @@ use crate::error::HostError;
 use crate::host::Host;
 use crate::instances::{Instances, no_instances};
 use crate::recovering::Recovered;
-use crate::settling::{are_due, hold, settle};
+use crate::settling::{are_due, hold, write_held};
 use crate::telling::{LogLines, Silent, Tells};
 use crate::turns::{Kind, Texts, answer, answer_long, clear};
 use crate::words::Lines;
@@ -158,7 +158,7 @@ fn host_lines<J: Tells, T: Tells, S: Source, L: Syncs, O: Sink>(
             host, instances, lines, scribe, teller, input, log, &mut held, line, &mut texts, right,
         )?;
         let is_due = are_due(kind, is_synced, waiting);
-        settle(is_due, is_synced, log, output, &mut held)?;
+        write_held(is_due, is_synced, log, output, &mut held)?;
         match kind {
             Kind::Called => entered += 1,
             Kind::Replayed => entered += 1,

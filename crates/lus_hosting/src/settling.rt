@@ -1,12 +1,12 @@
 //! Answers that are held until the log was synced.
 
 ghost use Rattle.std.specs.Prelude.{◌≡◌, ◌++◌, OnErr, OnOk, true};
-ghost use Rattle.lus_hosting.specs.Hosts.{Settles, SettlesSome};
+ghost use Rattle.lus_bursts.specs.Syncs.{Settles, SettlesSome};
 ghost use Rattle.lus_hosting.specs.declared.turns.Kind.TheVariants.{Ended, Unfinished};
 
 use crate::turns::Kind;
-use lus_bursts::{Syncs, Waiting};
-use lus_devices::{Sink, write_all};
+use lus_bursts::{Syncs, Waiting, settle};
+use lus_devices::Sink;
 use lus_play::PlayError;
 
 /// Keeps an answer until it is written.
@@ -19,12 +19,6 @@ pub(crate) fn hold(held: &mut Vec<u8>, answer: &str) -> Result<(), PlayError>
     }
 }
 
-/// Takes a line, and says whether no other waits.
-fn was_last(waiting: &Waiting) -> bool {
-    waiting.take();
-    !waiting.is_any()
-}
-
 /// Whether answers are due behind a line of this kind: all that are held, but where the log is synced those before a line that was read
 /// ahead, which then are answered with it.
 pub(crate) fn are_due(kind: Kind, is_synced: bool, waiting: &Waiting) -> bool
@@ -34,26 +28,12 @@ pub(crate) fn are_due(kind: Kind, is_synced: bool, waiting: &Waiting) -> bool
     match kind {
         Kind::Unfinished | Kind::Ended => true,
         Kind::Called | Kind::Replayed | Kind::Noted | Kind::Denied | Kind::Wrong | Kind::NoEntry =>
-            !is_synced || was_last(waiting),
-    }
-}
-
-/// Syncs the log, where it is to be.
-fn sync_log<L: Syncs>(is_synced: bool, log: &mut L) -> Result<(), PlayError>
-    ensures written { L.written log.new ≡ L.written log.old }
-    ensures synced { OnOk result (is_synced ≡ true → L.syncs log.old log.new) }
-{
-    if !is_synced {
-        return Ok(());
-    }
-    match log.sync() {
-        Ok(()) => Ok(()),
-        Err(_) => Err(PlayError::Write),
+            !is_synced || waiting.take(),
     }
 }
 
 /// Writes the answers that are held, where they are due, once the log is synced, where it is to be.
-pub(crate) fn settle<L: Syncs, O: Sink>(
+pub(crate) fn write_held<L: Syncs, O: Sink>(
     is_due: bool,
     is_synced: bool,
     log: &mut L,
@@ -65,15 +45,8 @@ pub(crate) fn settle<L: Syncs, O: Sink>(
         (O.written output.old) (O.written output.new)) }
     ensures some { OnErr result (SettlesSome L L.syncs is_synced log.old log.new held.old.items (O.written output.old) (O.written output.new)) }
 {
-    if !is_due || held.is_empty() {
-        return Ok(());
-    }
-    sync_log(is_synced, log)?;
-    match write_all(output, held) {
-        Ok(()) => {
-            held.clear();
-            Ok(())
-        }
+    match settle(is_due, is_synced, log, output, held) {
+        Ok(()) => Ok(()),
         Err(_) => Err(PlayError::Write),
     }
 }

@@ -5,7 +5,7 @@ use Rattle.lus_requests.specs.declared.request.Request.{Request}
 use Rattle.lus_requests.specs.declared.request.Entry.{Entry}
 use Rattle.lus_devices.specs.Devices.{Bytes, WritesBeginning, with_text}
 use Rattle.lus_devices.specs.Journals.{count_text, line_text, lines_text}
-use Rattle.lus_devices.proofs.Laws.{with_text-more}
+use Rattle.lus_devices.proofs.Laws.{with_text-more, with_text-nothing}
 use Rattle.lus_play.specs.Plays.{HasPlayed, HasPlayedAhead, HasPlayedAll, HasWhole, texts}
 use Rattle.lus_play.specs.declared.playing.Score.{Score}
 use Rattle.lus_play.proofs.AheadLaws.{all_begun, all_whole, begun_behind, nothing_begun, same_entries}
@@ -14,7 +14,9 @@ use Rattle.lus_recovery.specs.Recoveries.{HasResumed, HasResumedSome, entries_at
 use Rattle.lus_recovery.specs.declared.recovering.Start.{Start}
 use Rattle.lus_recovery.proofs.ResumeLaws.{resumed_all, resumed_some}
 use Rattle.lus_recovery.proofs.WriteLaws.{all_written, count_begun, lines_begun, lines_written, nothing_on}
-use Rattle.lus_logged.specs.Logs.{IsAhead}
+use Rattle.lus_bursts.specs.Syncs.{WasSynced}
+use Rattle.lus_logged.specs.Lines.{KeepsAhead}
+use Rattle.lus_logged.specs.Logs.{AreSafe, IsAhead}
 
 texts_lines : (names : Names) (callers : List Text) (n : ℕ) (es : List Entry) → texts (line_text names callers) n es ≡ lines_text names callers n es
 texts_lines names callers n [] = refl
@@ -36,6 +38,16 @@ nothing_ahead names who start tells h l l' w = record {
   rest = [];
   entered = sym (append-nil h);
   whole = inl refl;
+  replied = nothing_begun w [];
+}
+
+pub nothing_safe : (L : Type 0) (syncs : L → L → Type 0) (taken : L → Option Bytes) (names : Names) (who : Parties) (start : Start) (tells : ℕ → Entry → Bytes)
+    (h : List Entry) (l l' w : Option Bytes) → AreSafe (WasSynced L syncs taken) names who start tells h h l l' w w
+nothing_safe L syncs taken names who start tells h l l' w = record {
+  told = [];
+  rest = [];
+  entered = sym (append-nil h);
+  safe = inl refl;
   replied = nothing_begun w [];
 }
 
@@ -81,6 +93,28 @@ module _ (R : Bytes → Option Request → Type 0) (names : Names) (who : Partie
       entered = ahead.entered;
       whole = inr (in_front l2 ahead.told ahead.whole);
       replied = subst (λ m. WritesBeginning w w2 (texts tells m ahead.told)) first ahead.replied;
+    }
+
+    -- what is told was synced, and stays so behind which more is written
+    pub safe_on : (L : Type 0) (syncs : L → L → Type 0) (taken : L → Option Bytes) (l3 : Option Bytes) (more : Bytes) → l3 ≡ with_text l2 more
+        → KeepsAhead (WasSynced L syncs taken) (line_text names cs) tells n h h' l1 l2 w w2 → AreSafe (WasSynced L syncs taken) names who start tells h h' l l3 w w2
+    safe_on L syncs taken l3 more grown keeps = record {
+      told = keeps.told;
+      rest = keeps.rest;
+      entered = keeps.entered;
+      safe = elim keeps.safe [
+        | inl empty ↦ inl empty
+        | inr was ↦ inr (record {
+          before = was.before;
+          after = was.after;
+          more = was.more ++ more;
+          synced = was.synced;
+          whole = was.whole ∙ ap (λ o. with_text o (texts (line_text names cs) n keeps.told)) written
+              ∙ with_text-more l (start_text who.node start) (texts (line_text names cs) n keeps.told) ∙ ap (with_text l) (lines_front keeps.told);
+          since = grown ∙ ap (λ o. with_text o more) was.since ∙ with_text-more (taken was.after) was.more more;
+        })
+      ];
+      replied = subst (λ m. WritesBeginning w w2 (texts tells m keeps.told)) first keeps.replied;
     }
 
     module _ (end : Option Bytes) (score : Score) (logged : HasPlayedAll R (line_text names cs) n left end h h' l1 l2 score)

@@ -1,14 +1,17 @@
 //! Going on in a journal that has each entry before its reply is told.
 
-ghost use Rattle.std.specs.Prelude.{◌≡◌, ◌+◌, ℕ, IfOk, OnErr};
+ghost use Rattle.std.specs.Prelude.{◌≡◌, ◌+◌, ℕ, IfOk, OnErr, true};
+ghost use Rattle.lus_bursts.specs.Syncs.{WasSynced};
 ghost use Rattle.lus_program.specs.Programs.{Program};
 ghost use Rattle.lus_play.specs.Plays.{HasPlayedAll};
 ghost use Rattle.lus_recovery.specs.Journals.{parties_seen};
 ghost use Rattle.lus_recovery.specs.Recoveries.{HasResumed, HasResumedSome, entries_at};
-ghost use Rattle.lus_logged.specs.Logs.{IsAhead};
+ghost use Rattle.lus_logged.specs.Logs.{AreSafe, IsAhead};
 
+use crate::playing::play_synced;
+use lus_bursts::{Syncs, Waiting};
 use lus_devices::{Sink, Source};
-use lus_play::{Calls, PlayError, Reacts, Score, Speaks, play_ahead};
+use lus_play::{Calls, PlayError, Reacts, Score, Speaks};
 use lus_recovery::{
     JournalLines, Parties, Start, callers, count, entries_at, write_bytes, write_start,
 };
@@ -16,10 +19,10 @@ use lus_values::Names;
 use std::alloc::Global;
 
 /// Makes the call of each line on an instance, and writes on in its journal from where it was recovered: what is missing there, the line
-/// of each entry, numbered on, before its reply is told and the next call is read, and how many entries there are of all where no line
-/// is left. A line that is no call enters nothing, and `faults` is given its number and what is wrong. What is kept is one line, its
+/// of each entry, numbered on, before its reply is told and the next call is read, or where it is synced once it was synced with it, once
+/// for all calls that were read ahead; and how many entries there are of all where no line is left. A line that is no call enters nothing, and `faults` is given its number and what is wrong. What is kept is one line, its
 /// call and its entry, however many there were.
-pub fn log_on<C: Calls, R: Reacts, T: Speaks, S: Source, L: Sink, O: Sink, F: Sink>(
+pub fn log_on<C: Calls, R: Reacts, T: Speaks, S: Source, L: Syncs, O: Sink, F: Sink>(
     alloc: Global,
     calls: &C,
     names: &Names,
@@ -27,6 +30,8 @@ pub fn log_on<C: Calls, R: Reacts, T: Speaks, S: Source, L: Sink, O: Sink, F: Si
     start: Start,
     reactor: &mut R,
     speaker: &T,
+    is_synced: bool,
+    waiting: &Waiting,
     input: &mut S,
     log: &mut L,
     output: &mut O,
@@ -40,6 +45,8 @@ pub fn log_on<C: Calls, R: Reacts, T: Speaks, S: Source, L: Sink, O: Sink, F: Si
         (R.history reactor.old) (R.history reactor.new) (L.written log.old) (L.written log.new)) }
     ensures ahead { OnErr result (IsAhead names.now (parties_seen who.entry) start (T.says speaker.now) (R.history reactor.old) (R.history reactor.new)
         (L.written log.old) (L.written log.new) (O.written output.old) (O.written output.new)) }
+    ensures safe { is_synced ≡ true → AreSafe (WasSynced L L.syncs L.written) names.now (parties_seen who.entry) start (T.says speaker.now)
+        (R.history reactor.old) (R.history reactor.new) (L.written log.old) (L.written log.new) (O.written output.old) (O.written output.new) }
     ensures same { (p : Program) (f : ℕ) → R.is_of reactor.old p f → R.is_of reactor.new p f }
 {
     write_start(alloc, who.node, start, log)?;
@@ -50,8 +57,9 @@ pub fn log_on<C: Calls, R: Reacts, T: Speaks, S: Source, L: Sink, O: Sink, F: Si
     };
     let entries = entries_at(start);
     let first = entries.checked_add(1).ok_or(PlayError::Full)?;
-    let score = play_ahead(
-        alloc, calls, reactor, &scribe, speaker, first, input, log, output, faults,
+    let score = play_synced(
+        alloc, calls, reactor, &scribe, speaker, first, is_synced, waiting, input, log, output,
+        faults,
     )?;
     let all = entries.checked_add(score.entered).ok_or(PlayError::Full)?;
     let last = count(alloc, all)?;
