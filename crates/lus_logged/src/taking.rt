@@ -1,6 +1,6 @@
 //! Taking a line: its call is entered in the log, and its reply is held.
 
-ghost use Rattle.std.specs.Prelude.{◌≡◌, ◌++◌, ℕ, IfOk, OnErr, OnOk};
+ghost use Rattle.std.specs.Prelude.{◌≡◌, ◌++◌, ℕ, IfOk, OnErr, OnOk, true};
 ghost use Rattle.lus_devices.specs.Devices.{WritesBeginning, with_text};
 ghost use Rattle.lus_logged.specs.Lines.{AnswerFails, Answers, LineFails, LineIs, taken_of};
 ghost use Rattle.lus_logged.specs.declared.taking.Taken.TheVariants.{Ended, Unfinished};
