@@ -9,7 +9,6 @@ use Rattle.lus_requests.specs.declared.request.Entry.{Entry}
 use Rattle.lus_lines.specs.Lines.{IsNext}
 use Rattle.lus_play.specs.Plays.{AsksSome, HasPlayedAhead, HasPlayedAll, HasWhole, Played, texts}
 use Rattle.lus_play.specs.declared.playing.Score.{Score}
-use Rattle.lus_play.specs.declared.playing.Turn.TheVariants as plays
 use Rattle.lus_play.proofs.AheadLaws.{all_begun, all_whole, same_entries}
 use Rattle.lus_play.proofs.PlayLaws.{played_begun, played_entered, played_refused, played_start, turn_ended, turn_unfinished}
 use Rattle.lus_logged.specs.Lines.{KeepsAhead, LineFails, LineIs}
@@ -337,9 +336,9 @@ module _ (L : Type 0) (syncs : L → L → Type 0) (taken : L → Option Bytes) 
       line_unfinished same due score e r =
           let so = is_as takens.Unfinished same in
           let now_so = settled_same so.3 so.4 so.5 in (
-            turn_unfinished R logs first left h l mid h' (taken b) turns refused now_so.logged plays.Unfinished number later h' (taken b) score refl e r
+            turn_unfinished R logs first left h l mid h' (taken b) turns refused now_so.logged _ number later h' (taken b) score refl e r
                 (so.0, so.1, so.2, refl, refl),
-            turn_unfinished R tells first left h w mid h' (with_text next held'') turns refused now_so.replies plays.Unfinished number later h' next score refl e r
+            turn_unfinished R tells first left h w mid h' (with_text next held'') turns refused now_so.replies _ number later h' next score refl e r
                 (so.0, so.1, so.2, refl, all_written due),
             stopped mid h' (taken b) next held'' turns refused now_so,
           )
@@ -349,8 +348,8 @@ module _ (L : Type 0) (syncs : L → L → Type 0) (taken : L → Option Bytes) 
       line_ended same due score e r =
           let so = is_as takens.Ended same in
           let now_so = settled_same so.1 so.2 so.3 in (
-            turn_ended R logs first left h l mid h' (taken b) turns refused now_so.logged plays.Ended number later h' (taken b) score refl e r (so.0, refl, refl),
-            turn_ended R tells first left h w mid h' (with_text next held'') turns refused now_so.replies plays.Ended number later h' next score refl e r
+            turn_ended R logs first left h l mid h' (taken b) turns refused now_so.logged _ number later h' (taken b) score refl e r (so.0, refl, refl),
+            turn_ended R tells first left h w mid h' (with_text next held'') turns refused now_so.replies _ number later h' next score refl e r
                 (so.0, refl, all_written due),
             stopped mid h' (taken b) next held'' turns refused now_so,
           )

@@ -20,8 +20,9 @@ use std::alloc::Global;
 
 /// Makes the call of each line on an instance, and writes on in its journal from where it was recovered: what is missing there, the line
 /// of each entry, numbered on, before its reply is told and the next call is read, or where it is synced once it was synced with it, once
-/// for all calls that were read ahead; and how many entries there are of all where no line is left. A line that is no call enters nothing, and `faults` is given its number and what is wrong. What is kept is one line, its
-/// call and its entry, however many there were.
+/// for all calls that were read ahead; and how many entries there are of all where no line is left. A line that is no call enters nothing,
+/// and `faults` is given its number and what is wrong. What is kept is one line, its call and its entry, however many there were, and the
+/// replies that wait for a sync.
 pub fn log_on<C: Calls, R: Reacts, T: Speaks, S: Source, L: Syncs, O: Sink, F: Sink>(
     alloc: Global,
     calls: &C,

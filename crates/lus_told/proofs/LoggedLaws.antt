@@ -18,8 +18,9 @@ use Rattle.lus_reactions.specs.Reactions.{IsCallTo}
 use Rattle.lus_recovery.specs.Journals.{Parties}
 use Rattle.lus_recovery.specs.Recoveries.{HasResumed, HasResumedSome, added, entries_at}
 use Rattle.lus_recovery.specs.declared.recovering.Start.{Start}
-use Rattle.lus_logged.specs.Logs.{IsAhead}
-use Rattle.lus_told.specs.Logged.{HasLogged, HasLoggedSome}
+use Rattle.lus_bursts.specs.Syncs.{Safety}
+use Rattle.lus_logged.specs.Logs.{AreSafe as AreSynced, IsAhead}
+use Rattle.lus_told.specs.Logged.{AreSafe, HasLogged, HasLoggedSome}
 use Rattle.lus_told.specs.Telling.{json_says, reply_line}
 
 -- the program, its names and the outputs of the node as the code has them
@@ -85,3 +86,19 @@ module _ (p q : Program) (names : Names) (f : ℕ) (outputs : List Variable) (sa
       (subst (BothSome p (names_of p)) those
       (subst (λ ns. BothSome p ns outputs) named
       (subst (λ r. BothSome r names outputs) same (logged, ahead))))
+
+  abbrev Synced : Safety → Program → Names → List Variable → Type 0
+  Synced was_synced r ns os = AreSynced was_synced ns who start (λ _ e. reply_line r ns os e) h m.history l l' w w'
+
+  pub logged_safe : (was_synced : Safety) → AreSynced was_synced names who start (λ _ e. reply_line q names outputs e) h m.history l l' w w'
+      → AreSafe was_synced p f who start h l l' w w'
+  logged_safe was_synced synced =
+      let here = subst (Synced was_synced p (names_of p)) those
+      (subst (λ ns. Synced was_synced p ns outputs) named (subst (λ r. Synced was_synced r names outputs) same synced)) in
+      record {
+        told = here.told;
+        rest = here.rest;
+        lawful = subst (History p f) here.entered (lawful_of p f m live);
+        safe = here.safe;
+        replied = here.replied;
+      }

@@ -6,6 +6,7 @@ use Rattle.lus_live_instance.specs.MachineSpecs.Constructors.{names_of}
 use Rattle.lus_live_instance.specs.MachineSpecs.HistorySpecs.Histories.{History}
 use Rattle.lus_devices.specs.Devices.{Bytes, WritesBeginning, with_text}
 use Rattle.lus_devices.specs.Journals.{lines_text}
+use Rattle.lus_bursts.specs.Syncs.{Safety}
 use Rattle.lus_play.specs.Plays.{AsksAll, AsksSome, HasWhole, texts}
 use Rattle.lus_play.specs.declared.playing.Score.{Score}
 use Rattle.lus_reactions.specs.Reactions.{IsCallTo}
@@ -34,4 +35,14 @@ pub record HasLoggedSome (p : Program) (f : ℕ) (who : Parties) (start : Start)
   pub logged : WritesBeginning l l' (added (names_of p) who start (told ++ rest))
   pub whole : (told ≡ [])
       ⊎ HasWhole l l' (start_text who.node start ++ lines_text (names_of p) (who.caller ∷ []) (entries_at start + 1) told)
+  pub replied : WritesBeginning w w' (texts (json_says p f) (entries_at start + 1) told)
+
+-- The calls go on in a lawful history. Some of them are told, of whose replies a beginning is written; and the journal was synced once it had
+-- their lines whole behind what was missing in it, if there are any.
+pub record AreSafe (was_synced : Safety) (p : Program) (f : ℕ) (who : Parties) (start : Start) (h : List Entry) (l l' w w' : Option Bytes) : Type 0 where
+  pub told : List Entry
+  pub rest : List Entry
+  pub lawful : History p f (h ++ (told ++ rest))
+  pub safe : (told ≡ [])
+      ⊎ was_synced l (start_text who.node start ++ lines_text (names_of p) (who.caller ∷ []) (entries_at start + 1) told) l'
   pub replied : WritesBeginning w w' (texts (json_says p f) (entries_at start + 1) told)
