@@ -116,12 +116,17 @@ fn live<O: Sink, F: Sink>(
     output: &mut O,
     faults: &mut F,
 ) -> u8 {
-    let mut lines = Buffered::new(Input(rt.stdin()));
+    let waiting = Waiting::new();
+    let mut lines = Buffered::new(Counted {
+        waiting: &waiting,
+        source: Input(rt.stdin()),
+    });
     let mut log = JournalFile::new(rt);
     let status = lus_live::command(
         rt.alloc(),
         &Disk(rt),
         words,
+        &waiting,
         &mut lines,
         &mut log,
         output,

@@ -1,10 +1,11 @@
 -- How a live run ends, by how its parts do.
-use Rattle.std.proofs.Common.{◌≡◌, ◌∙◌, ℕ, inl, inr, refl, subst, sym, List, [], Option, Some, None, Result, Ok, Err, IfOk, OnErr}
+use Rattle.std.proofs.Common.{◌≡◌, ◌∙◌, ℕ, Bool, true, inl, inr, refl, subst, sym, List, [], Option, Some, None, Result, Ok, Err, IfOk, OnErr}
 use Rattle.lus_values.specs.Names.{Names}
 use Rattle.lus_requests.specs.declared.request.Entry.{Entry}
 use Rattle.lus_program.specs.Programs.{Program}
 use Rattle.lus_devices.specs.Devices.{Bytes}
 use Rattle.lus_devices.specs.Folders.{Holds, Known, WithFile}
+use Rattle.lus_bursts.specs.Syncs.{Safety}
 use Rattle.lus_recovery.specs.Journals.{Parties}
 use Rattle.lus_recovery.specs.Recoveries.{HasRecovered}
 use Rattle.lus_recovery.specs.declared.error.RecoveryError.{RecoveryError}
@@ -19,7 +20,7 @@ use Rattle.lus_cli.specs.Programs.{IsOfFile, IsProgramFault}
 use Rattle.lus_cli.specs.declared.fault.Fault.{Fault}
 use Rattle.lus_cli.specs.declared.fault.Fault.TheVariants as faults
 use Rattle.lus_cli.proofs.ProgramLemmas.{file_then}
-use Rattle.lus_told.specs.Logged.{HasLogged, HasLoggedSome}
+use Rattle.lus_told.specs.Logged.{AreSafe, HasLogged, HasLoggedSome}
 use Rattle.lus_told.specs.Records.{HasToldCsv, HasToldCsvSome}
 use Rattle.lus_told.specs.Telling.{HasToldJson, HasToldJsonSome}
 use Rattle.lus_live.specs.CommandLine.{Asked, Form, behind, csv, journal, json, logged}
@@ -81,11 +82,12 @@ logged_on p f who start left end before log (Ok score) output all begun = all
 logged_on p f who start left end before log (Err e) output all begun = begun
 
 pub has_logged : (p : Program) (f : ℕ) (who : Parties) (start : Start) (left end : Option Bytes) (before : List Entry) (log : Change) (ran : Ran) (output : Change)
-    (known : Known) (is_opened : Type 0) (l : Option Bytes) → l ≡ log.old → IsRecovered known p who.node start before → is_opened
+    (known : Known) (is_opened : Type 0) (was_synced : Safety) (is_synced : Bool) (l : Option Bytes) → l ≡ log.old → IsRecovered known p who.node start before → is_opened
     → IfOk ran (λ score. HasLogged p f who start left end before l log.new output.old output.new score)
     → OnErr ran (HasLoggedSome p f who start left before l log.new output.old output.new)
-    → HasLoggedOn known is_opened p f who left end log ran output
-has_logged p f who start left end before log ran output known is_opened l same recovered opened all begun = record {
+    → (is_synced ≡ true → AreSafe was_synced p f who start before l log.new output.old output.new)
+    → HasLoggedOn known is_opened was_synced is_synced p f who left end log ran output
+has_logged p f who start left end before log ran output known is_opened was_synced is_synced l same recovered opened all begun safe = record {
   start = start;
   before = before;
   recovered = recovered;
@@ -93,6 +95,7 @@ has_logged p f who start left end before log ran output known is_opened l same r
   logged = logged_on p f who start left end before log ran output
       (subst (λ k. IfOk ran (λ score. HasLogged p f who start left end before k log.new output.old output.new score)) same all)
       (subst (λ k. OnErr ran (HasLoggedSome p f who start left before k log.new output.old output.new)) same begun);
+  safe = λ is. subst (λ k. AreSafe was_synced p f who start before k log.new output.old output.new) same (safe is);
 }
 
 pub recovery_faults : (e : RecoveryError) → IsRecoveryFault (recovery_fault e)
@@ -127,22 +130,22 @@ journal_fails read_fails file name form faults.Words asks never = absurd never
 journal_fails read_fails file name form faults.Output asks never = absurd never
 journal_fails read_fails file name form faults.Start asks never = absurd never
 
-module _ (read_fails : Known → Type 0) (known : Text → Known) (opens : Text → Type 0) (left end : Option Bytes) (log : Change) (asked : Asked) (p : Program)
+module _ (read_fails : Known → Type 0) (known : Text → Known) (opens : Text → Type 0) (was_synced : Safety) (left end : Option Bytes) (log : Change) (asked : Asked) (p : Program)
     (node : ℕ) (output : Change) (accepted : IsOfFile (known asked.program) p) (named : node_named p asked.node ≡ Some node) where
   -- in the form that was asked for
-  pub task_played : (form : Form) (ran : Ran) → asked.form ≡ form → HasPlayedIn known opens form (parties_of asked) left end log ran output p node
-      → TaskEnds read_fails known opens left end log asked (Ok ran) output
+  pub task_played : (form : Form) (ran : Ran) → asked.form ≡ form → HasPlayedIn known opens was_synced form (parties_of asked) left end log ran output p node
+      → TaskEnds read_fails known opens was_synced left end log asked (Ok ran) output
   task_played form ran is played = record {
     program = p;
     accepted = accepted;
     node = node;
     named = named;
-    played = subst (λ k. HasPlayedIn known opens k (parties_of asked) left end log ran output p node) (sym is) played;
+    played = subst (λ k. HasPlayedIn known opens was_synced k (parties_of asked) left end log ran output p node) (sym is) played;
   }
 
   -- a journal isn't gone on from
   task_fails : (form : Form) (f : Fault) → asked.form ≡ form → AsksBehind (known asked.program) asked.node form → IsRecoveryFault f → end ≡ left
-      → IsUntouched log → IsUntouched output → TaskEnds read_fails known opens left end log asked (Err f) output
+      → IsUntouched log → IsUntouched output → TaskEnds read_fails known opens was_synced left end log asked (Err f) output
   task_fails form f is asks fault same log_same output_same = (
     journal_fails read_fails (known asked.program) asked.node asked.form f (subst (AsksBehind (known asked.program) asked.node) (sym is) asks) fault,
     same,
@@ -151,15 +154,15 @@ module _ (read_fails : Known → Type 0) (known : Text → Known) (opens : Text 
   )
 
   pub task_behind : (file : Text) (result : Result Ran Fault) → asked.form ≡ behind file → IsUntouched log
-      → GoesOn (known file) p node (parties_of asked) left end result output → TaskEnds read_fails known opens left end log asked result output
+      → GoesOn (known file) p node (parties_of asked) left end result output → TaskEnds read_fails known opens was_synced left end log asked result output
   task_behind file (Ok ran) is kept goes = task_played (behind file) ran is goes
   task_behind file (Err f) is kept goes = task_fails (behind file) f is (p, node, accepted, named) goes.0 goes.1 kept goes.2
 
-  pub task_logged : (file : Text) (result : Result Ran Fault) → asked.form ≡ logged file
-      → Logs (known file) (opens file) p node (parties_of asked) left end log result output
-      → TaskEnds read_fails known opens left end log asked result output
-  task_logged file (Ok ran) is logs = task_played (logged file) ran is logs
-  task_logged file (Err f) is logs = task_fails (logged file) f is (p, node, accepted, named) logs.0 logs.1 logs.2 logs.3
+  pub task_logged : (is_synced : Bool) (file : Text) (result : Result Ran Fault) → asked.form ≡ logged is_synced file
+      → Logs (known file) (opens file) was_synced is_synced p node (parties_of asked) left end log result output
+      → TaskEnds read_fails known opens was_synced left end log asked result output
+  task_logged is_synced file (Ok ran) is logs = task_played (logged is_synced file) ran is logs
+  task_logged is_synced file (Err f) is logs = task_fails (logged is_synced file) f is (p, node, accepted, named) logs.0 logs.1 logs.2 logs.3
 
 pub quiet_nothing : (f : Fault) (w : Option Bytes) (n : Option ℕ) → IsQuiet f (change w w n n)
 quiet_nothing (faults.Journal k) w n = tt
@@ -177,7 +180,7 @@ form_stays : (form : Form) (w : Option Bytes) (n : Option ℕ) → StaysIn form 
 form_stays journal w n = (refl, refl)
 form_stays (behind file) w n = (refl, refl)
 form_stays json w n = (refl, refl)
-form_stays (logged file) w n = tt
+form_stays (logged is_synced file) w n = tt
 form_stays csv w n = (refl, refl)
 
 pub still_stays : (asked : Option Asked) (w : Option Bytes) (n : Option ℕ) → LogStays asked (change w w n n)
@@ -185,5 +188,5 @@ still_stays None w n = (refl, refl)
 still_stays (Some asked) w n = form_stays asked.form w n
 
 -- one that a form goes on in
-pub logged_stays : (form : Form) (file : Text) (log : Change) → form ≡ logged file → StaysIn form log
-logged_stays form file log is = subst (λ f. StaysIn f log) (sym is) tt
+pub logged_stays : (form : Form) (is_synced : Bool) (file : Text) (log : Change) → form ≡ logged is_synced file → StaysIn form log
+logged_stays form is_synced file log is = subst (λ f. StaysIn f log) (sym is) tt

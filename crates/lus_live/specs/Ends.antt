@@ -1,8 +1,9 @@
 -- How a live run ends: what was played on which node, or which fault came before the first line.
-use Rattle.std.specs.Prelude.{◌≡◌, ◌⊎◌, ℕ, List, [], Option, Some, None, Result, Ok, Err, ⊤}
+use Rattle.std.specs.Prelude.{◌≡◌, ◌⊎◌, ℕ, Bool, true, List, [], Option, Some, None, Result, Ok, Err, ⊤}
 use Rattle.lus_program.specs.Programs.{Program}
 use Rattle.lus_devices.specs.Devices.{Bytes}
 use Rattle.lus_devices.specs.Folders.{Known, WithFile}
+use Rattle.lus_bursts.specs.Syncs.{Safety}
 use Rattle.lus_scripts.specs.declared.refusal.ScriptRefusal.TheVariants as scripts
 use Rattle.lus_requests.specs.declared.request.Entry.{Entry}
 use Rattle.lus_recovery.specs.Journals.{Parties}
@@ -15,7 +16,7 @@ use Rattle.lus_told.specs.LiveSpecs.MachineSpecs.Constructors.{names_of}
 use Rattle.lus_told.specs.LiveSpecs.PlaySpecs.declared.error.PlayError.{PlayError}
 use Rattle.lus_told.specs.LiveSpecs.PlaySpecs.declared.error.PlayError.TheVariants as plays
 use Rattle.lus_told.specs.LiveSpecs.PlaySpecs.declared.playing.Score.{Score}
-use Rattle.lus_told.specs.Logged.{HasLogged, HasLoggedSome}
+use Rattle.lus_told.specs.Logged.{AreSafe, HasLogged, HasLoggedSome}
 use Rattle.lus_told.specs.Records.{HasToldCsv, HasToldCsvSome}
 use Rattle.lus_told.specs.Telling.{HasToldJson, HasToldJsonSome}
 use Rattle.lus_cli.specs.HostSpecs.Sources.{ProgramRefused}
@@ -74,23 +75,26 @@ abbrev pub LoggedOn : Program → ℕ → Parties → Start → Option Bytes →
 LoggedOn p f who start left end before log (Ok score) output = HasLogged p f who start left end before log.old log.new output.old output.new score
 LoggedOn p f who start left end before log (Err e) output = HasLoggedSome p f who start left before log.old log.new output.old output.new
 
--- likewise, where the log was opened by the name of the journal's file
-pub record HasLoggedOn (had : Known) (is_opened : Type 0) (p : Program) (node : ℕ) (who : Parties) (left end : Option Bytes) (log : Change)
-    (ran : Ran) (output : Change) : Type 0 where
+-- Likewise, where the log was opened by the name of the journal's file. Where it is synced, each reply that is begun is to a call whose entry
+-- was in it when it was synced.
+pub record HasLoggedOn (had : Known) (is_opened : Type 0) (was_synced : Safety) (is_synced : Bool) (p : Program) (node : ℕ) (who : Parties)
+    (left end : Option Bytes) (log : Change) (ran : Ran) (output : Change) : Type 0 where
   pub start : Start
   pub before : List Entry
   pub recovered : IsRecovered had p who.node start before
   pub opened : is_opened
   pub logged : LoggedOn p node who start left end before log ran output
+  pub safe : is_synced ≡ true → AreSafe was_synced p node who start before log.old log.new output.old output.new
 
 -- in each form lines were played on the node of this number and name
-abbrev pub HasPlayedIn : (Text → Known) → (Text → Type 0) → Form → Parties → Option Bytes → Option Bytes → Change → Ran → Change → Program → ℕ → Type 0
-HasPlayedIn known opens journal who left end log ran output p node = Lived p node who left end ran output
-HasPlayedIn known opens (behind file) who left end log ran output p node = HasGoneOn (known file) p node who left end ran output
-HasPlayedIn known opens json who left end log ran output p node = ToldJson p node left end ran output
-HasPlayedIn known opens (logged file) who left end log ran output p node =
-    HasLoggedOn (known file) (opens file) p node who left end log ran output
-HasPlayedIn known opens csv who left end log ran output p node = ToldCsv p node left end ran output
+abbrev pub HasPlayedIn : (Text → Known) → (Text → Type 0) → Safety → Form → Parties → Option Bytes → Option Bytes → Change → Ran → Change → Program → ℕ
+    → Type 0
+HasPlayedIn known opens was_synced journal who left end log ran output p node = Lived p node who left end ran output
+HasPlayedIn known opens was_synced (behind file) who left end log ran output p node = HasGoneOn (known file) p node who left end ran output
+HasPlayedIn known opens was_synced json who left end log ran output p node = ToldJson p node left end ran output
+HasPlayedIn known opens was_synced (logged is_synced file) who left end log ran output p node =
+    HasLoggedOn (known file) (opens file) was_synced is_synced p node who left end log ran output
+HasPlayedIn known opens was_synced csv who left end log ran output p node = ToldCsv p node left end ran output
 
 -- whom a journal of what was asked for names
 abbrev pub parties_of : Asked → Parties
@@ -109,7 +113,7 @@ abbrev pub AsksBehind : Known → Text → Form → Type 0
 AsksBehind file name journal = ⊥
 AsksBehind file name (behind other) = (p : Program) × (node : ℕ) × IsOfFile file p × (node_named p name ≡ Some node)
 AsksBehind file name json = ⊥
-AsksBehind file name (logged other) = (p : Program) × (node : ℕ) × IsOfFile file p × (node_named p name ≡ Some node)
+AsksBehind file name (logged is_synced other) = (p : Program) × (node : ℕ) × IsOfFile file p × (node_named p name ≡ Some node)
 AsksBehind file name csv = ⊥
 
 -- why no line is played: the program's file is lost, it is refused, or it lacks the node; or the journal's file is lost, or a line of it
@@ -126,11 +130,11 @@ LiveFails read_fails file name form faults.Output = ⊥
 LiveFails read_fails file name form faults.Start = ⊥
 
 -- the lines are played, or no line is read and nothing is written
-abbrev pub TaskEnds : (Known → Type 0) → (Text → Known) → (Text → Type 0) → Option Bytes → Option Bytes → Change → Asked → Result Ran Fault → Change
-    → Type 0
-TaskEnds read_fails known opens left end log asked (Ok ran) output =
-    OfNode (known asked.program) asked.node (HasPlayedIn known opens asked.form (parties_of asked) left end log ran output)
-TaskEnds read_fails known opens left end log asked (Err f) output =
+abbrev pub TaskEnds : (Known → Type 0) → (Text → Known) → (Text → Type 0) → Safety → Option Bytes → Option Bytes → Change → Asked → Result Ran Fault
+    → Change → Type 0
+TaskEnds read_fails known opens was_synced left end log asked (Ok ran) output =
+    OfNode (known asked.program) asked.node (HasPlayedIn known opens was_synced asked.form (parties_of asked) left end log ran output)
+TaskEnds read_fails known opens was_synced left end log asked (Err f) output =
     LiveFails read_fails (known asked.program) asked.node asked.form f × (end ≡ left) × IsUntouched log × IsUntouched output
 
 -- unless replies are told that a file's journal has, the log is left alone
@@ -138,7 +142,7 @@ abbrev pub StaysIn : Form → Change → Type 0
 StaysIn journal log = IsUntouched log
 StaysIn (behind file) log = IsUntouched log
 StaysIn json log = IsUntouched log
-StaysIn (logged file) log = ⊤
+StaysIn (logged is_synced file) log = ⊤
 StaysIn csv log = IsUntouched log
 
 abbrev pub LogStays : Option Asked → Change → Type 0
@@ -169,9 +173,10 @@ abbrev pub GoesOn : Known → Program → ℕ → Parties → Option Bytes → O
 GoesOn had p node who left end (Ok ran) output = HasGoneOn had p node who left end ran output
 GoesOn had p node who left end (Err f) output = IsRecoveryFault f × (end ≡ left) × IsUntouched output
 
-abbrev pub Logs : Known → Type 0 → Program → ℕ → Parties → Option Bytes → Option Bytes → Change → Result Ran Fault → Change → Type 0
-Logs had is_opened p node who left end log (Ok ran) output = HasLoggedOn had is_opened p node who left end log ran output
-Logs had is_opened p node who left end log (Err f) output = IsRecoveryFault f × (end ≡ left) × IsUntouched log × IsUntouched output
+abbrev pub Logs : Known → Type 0 → Safety → Bool → Program → ℕ → Parties → Option Bytes → Option Bytes → Change → Result Ran Fault → Change → Type 0
+Logs had is_opened was_synced is_synced p node who left end log (Ok ran) output =
+    HasLoggedOn had is_opened was_synced is_synced p node who left end log ran output
+Logs had is_opened was_synced is_synced p node who left end log (Err f) output = IsRecoveryFault f × (end ≡ left) × IsUntouched log × IsUntouched output
 
 -- ---- what is told
 
@@ -187,8 +192,8 @@ IsTold (Ok (Err e)) status faults = IsToldLast status (play_fault e) faults
 IsTold (Err f) status faults = IsToldAlone status f faults
 
 -- a live run ends with an outcome of what was asked for, which is told
-pub record Ends (read_fails : Known → Type 0) (known : Text → Known) (opens : Text → Type 0) (asked : Option Asked) (left end : Option Bytes)
-    (log output faults : Change) (status : ℕ) : Type 0 where
+pub record Ends (read_fails : Known → Type 0) (known : Text → Known) (opens : Text → Type 0) (was_synced : Safety) (asked : Option Asked)
+    (left end : Option Bytes) (log output faults : Change) (status : ℕ) : Type 0 where
   pub outcome : Result Ran Fault
-  pub ends : AskedEnds (TaskEnds read_fails known opens left end log) asked outcome output
+  pub ends : AskedEnds (TaskEnds read_fails known opens was_synced left end log) asked outcome output
   pub told : IsTold outcome status faults

@@ -2,6 +2,7 @@
 
 ghost use Rattle.std.specs.Prelude.{◌≡◌, IfErr, IfOk, OnOk, Some, map, string_bytes};
 ghost use Rattle.std.specs.Arc.{arc_value};
+ghost use Rattle.lus_bursts.specs.Syncs.{WasSynced};
 ghost use Rattle.lus_cli.specs.Changes.{IsUntouched, change};
 ghost use Rattle.lus_cli.specs.CodeSpecs.Codes.{program_of};
 ghost use Rattle.lus_cli.specs.Ends.{AskedEnds, ReadFails};
@@ -15,6 +16,7 @@ ghost use Rattle.lus_told.specs.LiveSpecs.Lives.{IsLive};
 use crate::log::Log;
 use crate::notes::{tell_no_entry, tell_start, tell_wrong};
 use crate::words::{Form, Task, read_words};
+use lus_bursts::Waiting;
 use lus_cli::lus_host::ScriptRefusal;
 use lus_cli::{Fault, lines_status, read_program, tell, tell_nodes};
 use lus_devices::{Folder, Sink, Source};
@@ -125,14 +127,16 @@ fn log_behind<D: Folder, S: Source, L: Log, O: Sink, F: Sink>(
     node: NodeId,
     who: Parties<'_>,
     journal: &str,
+    is_synced: bool,
+    waiting: &Waiting,
     input: &mut S,
     log: &mut L,
     output: &mut O,
     faults: &mut F,
 ) -> Result<Result<Score, PlayError>, Fault>
     requires { node_named (program_of (arc_value program.now)) who.node.now ≡ Some node.0 }
-    ensures ends { Logs (D.known folder.now journal.now) (Opens L L.opens log.old journal.now) (program_of (arc_value program.now)) node.0
-        (parties_seen who.entry) (S.left input.old) (S.left input.new)
+    ensures ends { Logs (D.known folder.now journal.now) (Opens L L.opens log.old journal.now) (WasSynced L L.syncs L.written) is_synced
+        (program_of (arc_value program.now)) node.0 (parties_seen who.entry) (S.left input.old) (S.left input.new)
         (change (L.written log.old) (L.written log.new) (L.failures log.old) (L.failures log.new)) result
         (change (O.written output.old) (O.written output.new) (O.failures output.old) (O.failures output.new)) }
     ensures quiet { IfErr result (λ f. IsQuiet f
@@ -145,7 +149,7 @@ fn log_behind<D: Folder, S: Source, L: Log, O: Sink, F: Sink>(
     let recovered = recover_file(alloc, folder, program, node, who.node, journal, faults)?;
     tell_start(faults, recovered.start);
     Ok(log_json(
-        alloc, program, node, who, recovered, input, log, output, faults,
+        alloc, program, node, who, recovered, is_synced, waiting, input, log, output, faults,
     ))
 }
 
@@ -154,13 +158,14 @@ fn play_on<D: Folder, S: Source, L: Log, O: Sink, F: Sink>(
     alloc: Global,
     folder: &D,
     task: Task<'_>,
+    waiting: &Waiting,
     input: &mut S,
     log: &mut L,
     output: &mut O,
     faults: &mut F,
 ) -> Result<Result<Score, PlayError>, Fault>
     ensures ends { TaskEnds (ReadFails D.File D.File.left D.File.failures) (D.known folder.now) (Opens L L.opens log.old)
-        (S.left input.old) (S.left input.new)
+        (WasSynced L L.syncs L.written) (S.left input.old) (S.left input.new)
         (change (L.written log.old) (L.written log.new) (L.failures log.old) (L.failures log.new)) (task_seen task.entry) result
         (change (O.written output.old) (O.written output.new) (O.failures output.old) (O.failures output.new)) }
     ensures stays { LogStays (Some (task_seen task.entry))
@@ -186,7 +191,10 @@ fn play_on<D: Folder, S: Source, L: Log, O: Sink, F: Sink>(
             alloc, folder, &program, node, who, journal, input, output, faults,
         ),
         Form::Logged(journal) => log_behind(
-            alloc, folder, &program, node, who, journal, input, log, output, faults,
+            alloc, folder, &program, node, who, journal, false, waiting, input, log, output, faults,
+        ),
+        Form::Synced(journal) => log_behind(
+            alloc, folder, &program, node, who, journal, true, waiting, input, log, output, faults,
         ),
         Form::Json => Ok(run_json(alloc, &program, node, input, output, faults)),
         Form::Csv => Ok(run_csv(alloc, &program, node, input, output, faults)),
@@ -197,13 +205,14 @@ fn perform<D: Folder, S: Source, L: Log, O: Sink, F: Sink>(
     alloc: Global,
     folder: &D,
     words: &[String],
+    waiting: &Waiting,
     input: &mut S,
     log: &mut L,
     output: &mut O,
     faults: &mut F,
 ) -> Result<Result<Score, PlayError>, Fault>
     ensures ends { AskedEnds (TaskEnds (ReadFails D.File D.File.left D.File.failures) (D.known folder.now) (Opens L L.opens log.old)
-        (S.left input.old) (S.left input.new)
+        (WasSynced L L.syncs L.written) (S.left input.old) (S.left input.new)
         (change (L.written log.old) (L.written log.new) (L.failures log.old) (L.failures log.new))) (asked (map string_bytes words.now)) result
         (change (O.written output.old) (O.written output.new) (O.failures output.old) (O.failures output.new)) }
     ensures stays { LogStays (asked (map string_bytes words.now))
@@ -212,7 +221,7 @@ fn perform<D: Folder, S: Source, L: Log, O: Sink, F: Sink>(
         (change (F.written faults.old) (F.written faults.new) (F.failures faults.old) (F.failures faults.new))) }
 {
     let task = read_words(alloc, words)?;
-    play_on(alloc, folder, task, input, log, output, faults)
+    play_on(alloc, folder, task, waiting, input, log, output, faults)
 }
 
 fn fault_of(error: PlayError) -> Fault
@@ -229,7 +238,8 @@ fn fault_of(error: PlayError) -> Fault
 /// Makes the call of each line of the input on the node that the words name, and writes the journal: each entry before the next line
 /// is read. Its entries are of the caller that is named, or of `user`. With a journal among the words that is read and replayed first,
 /// and written on. With `--json` each reply is written as an object of JSON, in place of a journal's lines, and a journal among the words is
-/// itself gone on in by `log`: a reply is begun only once the line of its entry is whole there. With `--csv` the first line names columns of
+/// itself gone on in by `log`: a reply is begun only once the line of its entry is whole there, and with `--sync` once the log was synced with
+/// it, once for all calls whose lines are `waiting`, that is, were read ahead. With `--csv` the first line names columns of
 /// inputs, each other line is the record of a step, and the outputs are written as records. Gives the status of the
 /// process: 0 where all lines were read and each was a call, 2 where one was none, which `faults` is given with its number, else that of
 /// the fault.
@@ -237,20 +247,21 @@ pub fn command<D: Folder, S: Source, L: Log, O: Sink, F: Sink>(
     alloc: Global,
     folder: &D,
     words: &[String],
+    waiting: &Waiting,
     input: &mut S,
     log: &mut L,
     output: &mut O,
     faults: &mut F,
 ) -> u8
     ensures ends { Ends (ReadFails D.File D.File.left D.File.failures) (D.known folder.now) (Opens L L.opens log.old)
-        (asked (map string_bytes words.now)) (S.left input.old) (S.left input.new)
+        (WasSynced L L.syncs L.written) (asked (map string_bytes words.now)) (S.left input.old) (S.left input.new)
         (change (L.written log.old) (L.written log.new) (L.failures log.old) (L.failures log.new))
         (change (O.written output.old) (O.written output.new) (O.failures output.old) (O.failures output.new))
         (change (F.written faults.old) (F.written faults.new) (F.failures faults.old) (F.failures faults.new)) result }
     ensures stays { LogStays (asked (map string_bytes words.now))
         (change (L.written log.old) (L.written log.new) (L.failures log.old) (L.failures log.new)) }
 {
-    match perform(alloc, folder, words, input, log, output, faults) {
+    match perform(alloc, folder, words, waiting, input, log, output, faults) {
         Ok(Ok(score)) => lines_status(score.refused),
         Ok(Err(error)) => tell(faults, fault_of(error)),
         Err(fault) => tell(faults, fault),

@@ -24,6 +24,8 @@ pub enum Form<'a> {
     Json,
     /// Likewise, once its entry is in a file's journal.
     Logged(&'a str),
+    /// Likewise, once that was synced with it.
+    Synced(&'a str),
     /// The outputs of each step as a record of CSV, as which the steps are read.
     Csv,
 }
@@ -42,7 +44,8 @@ fn command<'a>(alloc: Global) -> Result<Command<'a>, AllocError>
 {
     let json = with_flag(alloc, bare(alloc, "lus_live"), "json")?;
     let csv = with_flag(alloc, json, "csv")?;
-    let caller = with_value(alloc, csv, "caller")?;
+    let sync = with_flag(alloc, csv, "sync")?;
+    let caller = with_value(alloc, sync, "caller")?;
     let program = with_required(alloc, caller, "PROGRAM")?;
     let node = with_required(alloc, program, "NODE")?;
     with_optional(alloc, node, "JOURNAL")
@@ -57,20 +60,23 @@ pub fn read_words<'a>(alloc: Global, words: &'a [String]) -> Result<Task<'a>, Wo
     choose(&matches).ok_or(WordsError::Mistaken)
 }
 
-/// A table goes with no file's journal, and of the two flags there is one at most.
+/// A table goes with no file's journal, and of the flags of forms there is one at most. Only a file's journal that the run goes on in itself is
+/// synced.
 fn form_in<'a>(matches: &ArgMatches<'a>) -> Option<Form<'a>>
     ensures { option_map form_seen result ≡ form_in (rows_of (found_of matches.now)) }
 {
     match (
         is_set(matches, "json"),
         is_set(matches, "csv"),
+        is_set(matches, "sync"),
         value_of(matches, "JOURNAL"),
     ) {
-        (false, false, None) => Some(Form::Journal),
-        (false, false, Some(journal)) => Some(Form::Behind(journal)),
-        (true, false, None) => Some(Form::Json),
-        (true, false, Some(journal)) => Some(Form::Logged(journal)),
-        (false, true, None) => Some(Form::Csv),
+        (false, false, false, None) => Some(Form::Journal),
+        (false, false, false, Some(journal)) => Some(Form::Behind(journal)),
+        (true, false, false, None) => Some(Form::Json),
+        (true, false, false, Some(journal)) => Some(Form::Logged(journal)),
+        (true, false, true, Some(journal)) => Some(Form::Synced(journal)),
+        (false, true, false, None) => Some(Form::Csv),
         _ => None,
     }
 }
@@ -79,7 +85,7 @@ fn is_journal(form: Form<'_>) -> bool
     ensures { result ≡ is_journal (form_seen form.entry) }
 {
     match form {
-        Form::Journal | Form::Behind(_) | Form::Logged(_) => true,
+        Form::Journal | Form::Behind(_) | Form::Logged(_) | Form::Synced(_) => true,
         Form::Json | Form::Csv => false,
     }
 }
