@@ -67,7 +67,7 @@ Status: 0 valid, 1 the program is rejected, 2 a wrong line, or no journal,
 3 a file or the output fails, 4 out of memory.
 ";
 
-const LIVE: &str = "usage: lus_live [--json | --csv] [--caller NAME] PROGRAM NODE [JOURNAL]
+const LIVE: &str = "usage: lus_live [--json [--sync] | --csv] [--caller NAME] PROGRAM NODE [JOURNAL]
        lus_live --many [--json] PROGRAM NODE [[--caller NAME] [--sync] LOG]
 
 Runs a node in a pipe: reads calls from standard input, a line of JSON each, and writes the
