@@ -14,6 +14,9 @@ const feed = String.fromCharCode(10);
 // The items of a row's text.
 const items = (text) => text === '' ? [] : text.split(', ');
 
+// The rows of a burst.
+const rowsOf = (text) => text === '' ? [] : text.slice(1, -1).split('), (').map(items);
+
 // The value of an item: of a structure the values of its fields.
 function parsed(item) {
   const stack = [[]];
@@ -43,14 +46,16 @@ const leaves = (item, names) => item.startsWith('{') || names.length > 1 ? sprea
 
 // An instance: its signals with a value for each accepted instant, and what stands before each.
 class Instance {
-  constructor(name, node) {
+  constructor(name, node, early) {
     this.name = name;
     this.node = node;
     this.inputs = [];
     this.outputs = [];
     this.locals = [];
     this.order = [];
-    this.early = '';
+    this.early = early;
+    this.entries = 0;
+    this.isBroken = false;
     this.told = 0;
     this.instants = [];
     this.before = [[]];
@@ -68,7 +73,21 @@ class Instance {
     this.before.push([]);
   }
 
+  // Whether a line is the next entry, with as many values at each instant as before, and a restore behind its save.
+  fits(line) {
+    const [, number, request, reply] = /^([0-9]+) [^ ]+ (.+?) -> (.+)$/.exec(line) || [];
+    const [, word, slot, inside] = /^([a-z]+)(?: ([0-9]+)|[(](.*)[)])?$/.exec(request) || [];
+    if (Number(number) !== this.entries + 1 || reply.startsWith('refused ')) return Number(number) === this.entries + 1;
+    if (inside === undefined) return reply === 'done' && (word === 'reset' || word === 'save' || word === 'restore' && slot in this.saved);
+    if (!/^[(].*[)]$/.test(reply) || word !== 'step' && word !== 'burst') return false;
+    const [asked, answered] = [inside, reply.slice(1, -1)].map(word === 'step' ? (text) => [items(text)] : rowsOf);
+    const first = this.instants[0] || { inputs: asked[0], outputs: answered[0] };
+    const is = (rows, row) => rows.every((other) => other.length === row.length);
+    return asked.length === answered.length && (!asked.length || is(asked, first.inputs) && is(answered, first.outputs));
+  }
+
   enter(line) {
+    this.entries += 1;
     const arrow = line.indexOf(' -> ');
     const [number, caller] = line.split(' ', 2);
     const request = line.slice(number.length + caller.length + 2, arrow);
@@ -80,10 +99,9 @@ class Instance {
   }
 
   burst(asked, answered, caller, line) {
-    const rows = (text) => text === '' ? [] : text.slice(1, -1).split('), (').map(items);
-    const outputs = rows(answered);
+    const outputs = rowsOf(answered);
     this.mark('event', 'burst ' + outputs.length, line);
-    rows(asked).forEach((inputs, place) => this.accept(inputs, outputs[place], caller, line));
+    rowsOf(asked).forEach((inputs, place) => this.accept(inputs, outputs[place], caller, line));
   }
 
   event(request, line) {
@@ -137,7 +155,7 @@ function signal(name, side, values) {
   if (is((value) => value === 'true' || value === 'false')) {
     row.kind = 'truth';
     row.levels = Float64Array.from(values, (value) => value === '-' ? NaN : value === 'true' ? 1 : 0);
-  } else if (is((value) => value !== '' && !isNaN(value))) {
+  } else if (is((value) => /^-?[0-9]+$/.test(value))) {
     row.kind = 'number';
     const numbers = Float64Array.from(values, (value) => value === '-' ? NaN : Number(value));
     const least = numbers.reduce((a, b) => b < a ? b : a, Infinity), most = numbers.reduce((a, b) => b > a ? b : a, -Infinity);
@@ -146,21 +164,35 @@ function signal(name, side, values) {
   return row;
 }
 
-// A line is an instance's first, one behind that, what is told of an instant, or an entry's. Others say nothing of signals.
+// The instances of a text, whose lines of an audited file have the names of signals behind the first.
 function read(text) {
-  const found = [];
-  for (const line of text.split(feed).filter((line) => !line.endsWith('# cut short'))) {
-    const [word, ...words] = line.split(' ');
-    const last = found[found.length - 1];
-    if (word === 'instance') found.push(new Instance(...words));
-    else if (!last) continue;
-    else if (['input', 'output', 'local'].includes(word)) last[word + 's'].push(words);
-    else if (word === 'shown') last.order = words;
-    else if (word === 'ends') last.early = ', ' + line;
-    else if (word === '+') last.tell(items(line.slice(3, -1)));
-    else if (line.includes(' -> ')) last.enter(line);
-  }
+  const lines = text.split(feed).slice(0, -1), found = [];
+  const isAudited = lines.length > 1 && ['input', 'output'].includes(lines[1].split(' ')[0]);
+  lines.forEach((line, place) => {
+    const [word, ...words] = line.split(' '), last = found[found.length - 1];
+    if (word === 'instance') found.push(new Instance(words[0], words[1] || '', isAudited ? '' : ', ends early at line ' + (place + 1)));
+    else if (isAudited) readAudited(last, line, word, words);
+    else if (last) readPlain(last, line, word, place + 1);
+  });
   return found;
+}
+
+// A line is what is told of a node or of an instant, or an entry. Others say nothing of signals.
+function readAudited(last, line, word, words) {
+  if (line.endsWith('# cut short')) return;
+  if (['input', 'output', 'local'].includes(word)) last[word + 's'].push(words);
+  else if (word === 'shown') last.order = words;
+  else if (word === 'ends') last.early = ', ' + line;
+  else if (word === '+') last.tell(items(line.slice(3, -1)));
+  else if (line.includes(' -> ')) last.enter(line);
+}
+
+// Of a file that wasn't audited a line may be none of a journal: what stands behind it isn't read.
+function readPlain(last, line, word, number) {
+  if (last.isBroken || line.endsWith('# cut short')) return;
+  if (word === 'entries') last.early = '';
+  else if (last.fits(line)) { last.enter(line); last.early = ', ends early at line ' + number; }
+  else { last.isBroken = true; last.early = ', broken at line ' + number; }
 }
 
 ";
