@@ -1,4 +1,4 @@
--- What a log had when it was synced.
+-- What a log had when it was synced: a log is written ahead of what it answers for (Gray and Reuter 1993, write-ahead log and group commit).
 use Rattle.std.specs.Prelude.{◌≡◌, ◌⊎◌, [], Option}
 use Rattle.lus_devices.specs.Devices.{Bytes, with_text}
 

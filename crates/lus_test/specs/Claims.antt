@@ -1,4 +1,4 @@
--- Claims: outputs that say whether something holds, and runs in which they do.
+-- Claims: outputs that say whether something holds, and runs in which they do: synchronous observers (Halbwachs, Lagnier and Raymond 1993).
 use Rattle.std.specs.Prelude.{◌≡◌, ◌+◌, ℕ, Bool, true, List, [], ◌∷◌, length, Option, Some, None, codes, if◌then◌else◌}
 use Rattle.std.specs.List.{All}
 use Rattle.std.specs.Str.{bytes_eq}
