@@ -14,7 +14,7 @@ CTRL = 2
 FLAGS = ["--headless=new", "--no-sandbox", "--no-first-run", "--disable-background-networking", "--disable-component-update", "--disable-sync",
          "--disable-extensions", "--disable-gpu", "--disable-dev-shm-usage", "--disable-smooth-scrolling", "--disable-frame-rate-limit",
          "--disable-gpu-vsync", "--remote-debugging-pipe"]
-CODES = {"ArrowLeft": 37, "ArrowRight": 39, "Home": 36, "End": 35, "Escape": 27}
+CODES = {"ArrowLeft": 37, "ArrowUp": 38, "ArrowRight": 39, "ArrowDown": 40, "Home": 36, "End": 35, "Escape": 27, "Enter": 13}
 
 
 def installed():

@@ -3,6 +3,7 @@ use Rattle.std.specs.Prelude.{◌++◌, ◌-◌, ◌==◌, List, [], flat_map, l
 use Rattle.std.specs.List.{slice_split}
 use Rattle.lus_values.specs.Names.{Text}
 use Rattle.lus_traces.specs.Markup.{escaped}
+use Rattle.lus_traces.specs.declared.acting.TheConstants.{ACTING}
 use Rattle.lus_traces.specs.declared.document.TheConstants.{OPENING}
 use Rattle.lus_traces.specs.declared.reading.TheConstants.{READING}
 use Rattle.lus_traces.specs.declared.showing.TheConstants.{SHOWING}
@@ -34,4 +35,4 @@ line_text l = row_text l.text ++ flat_map row_text l.further
 
 -- the page of a file's lines
 unfoldable pub page_text : List Line → Text
-page_text ls = (OPENING.now ++ flat_map line_text ls ++ READING.now) ++ SHOWING.now
+page_text ls = ((OPENING.now ++ flat_map line_text ls ++ READING.now) ++ SHOWING.now) ++ ACTING.now

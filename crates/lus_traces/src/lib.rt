@@ -2,6 +2,7 @@
 //! them as VCD, which waveform viewers read.
 #![tactic(auto)]
 
+mod acting;
 mod axis;
 mod cutting;
 mod document;

@@ -3,6 +3,7 @@
 ghost use Rattle.std.specs.Prelude.{◌≡◌, ◌++◌, IfOk, OnOk, flat_map, map, string_bytes};
 ghost use Rattle.lus_traces.specs.Pages.{line_seen, line_text, page_text, row_text};
 
+use crate::acting::ACTING;
 use crate::document::OPENING;
 use crate::lines::Line;
 use crate::markup::push_escaped;
@@ -39,5 +40,6 @@ pub fn html(alloc: Global, lines: &[Line<'_>]) -> Result<String, AllocError>
     }
     out.push_str(READING)?;
     out.push_str(SHOWING)?;
+    out.push_str(ACTING)?;
     Ok(out)
 }

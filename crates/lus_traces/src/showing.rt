@@ -1,72 +1,89 @@
-//! What stands in a page last: the rest of the script that draws its journals.
+//! The second part of a page's script: what it shows.
 
-/// The script's second half: what it shows, and what one can do. It draws only what is seen.
+/// It draws what is seen of the lanes of signals, and tells what the journal has at the cursor.
 pub const SHOWING: &str = "// ---- What is shown.
 
-const all = read(byId('journals').textContent).map((instance) => ({ instance, rows: instance.rows() }));
-let at = 0, scale = 40, cursor = 0, chosen = null, dragged = null, pinned = false;
+const COLORS = ['number', 'event', 'box', 'truth'];
+const all = read();
+let at = 0, scale = 40, cursor = 0, marker = null, chosen = null, dragged = null, pinned = false, isDue = false;
 
-const count = () => all[at].instance.instants.length;
-const shown = () => all[at].rows.filter((row) => row.shown);
+const count = () => all[at].count;
+const shown = () => all[at].signals.filter((row) => row.shown);
 const room = () => byId('scroll').clientWidth - byId('names').offsetWidth;
 const fitting = () => Math.max((room() - MARGIN) / Math.max(count(), 1), 0.001);
 
-// Draws a signal between two instants: the lines or boxes of its runs, and a bar for each pixel in which it changes.
-function drawSignal(pen, row, top, from, to, x) {
-  const low = top + LANE - 8, high = top + 8, y = (level) => low - level * (low - high);
-  pen.strokeStyle = color(row.kind);
+// The lanes below each other, from a height on, with the signals of each: a joined number is in the lane of the one above it, on one axis.
+function lanes(top) {
+  const lanes = [];
+  for (const row of shown()) {
+    const last = lanes[lanes.length - 1];
+    if (row.isJoined && row.kind === 'number' && last && last.rows[0].kind === 'number') last.rows.push(row);
+    else lanes.push({ rows: [row] });
+  }
+  for (const lane of lanes) {
+    const { rows } = lane, height = Math.max(rows[0].height, rows.length * LEAST), rim = Math.min(height / 4, 8), low = top + height - rim;
+    const least = Math.min(...rows.map((row) => row.least)), most = Math.max(...rows.map((row) => row.most));
+    const y = (number) => low - (most === least ? 0.5 : (number - least) / (most - least)) * (height - 2 * rim);
+    Object.assign(lane, { top, height, high: top + rim, low, y });
+    top += height;
+  }
+  return lanes;
+}
+
+// Draws a signal between two instants: the lines or boxes of its values, and a bar for each pixel in which it changes.
+function drawSignal(pen, lane, row, from, to, x) {
+  const isBox = row.kind === 'box';
+  pen.strokeStyle = color(row === lane.rows[0] ? row.kind : COLORS[lane.rows.indexOf(row) % COLORS.length]);
   pen.fillStyle = color(row.kind === 'truth' ? 'lit' : 'text');
   pen.lineWidth = 1.5;
   pen.beginPath();
-  for (let start = from, end, last = null; start < to; start = end) {
-    for (end = start + 1; end < to && row.codes[end] === row.codes[start];) end += 1;
-    const value = row.values[start], left = x(start);
+  for (let start = from, run = row.run(from), end, last = null; start < to; start = end, run += row.starts[run + 1] === start) {
+    end = Math.min(row.starts[run + 1] ?? to, to);
+    const left = x(start), isAbsent = row.values[run] === '-';
     if (end < to && x(end) - left < 1) {
       end = Math.min(start + Math.ceil(1 / scale), to);
-      drawBar(pen, row, start, end, left, y);
-      last = row.kind === 'box' || row.values[end - 1] === '-' ? null : y(row.levels[end - 1]);
-    } else if (value === '-') last = null;
-    else if (row.kind === 'box') drawBox(pen, value, left, x(end), low, high);
-    else last = drawLevel(pen, row, value, left, x(end), low, y(row.levels[start]), last);
+      const first = run;
+      while (row.starts[run + 1] < end) run += 1;
+      drawBar(pen, isBox ? [lane.low, lane.high] : extent(row.numbers.subarray(first, run + 1)).map(lane.y), left);
+      last = isBox || row.values[run] === '-' ? null : lane.y(row.numbers[run]);
+    } else if (isAbsent) last = null;
+    else if (isBox) drawBox(pen, row.values[run], left, x(end), lane);
+    else last = drawLevel(pen, lane, row, run, left, x(end), last);
   }
   pen.stroke();
 }
 
-function drawBar(pen, row, start, end, left, y) {
-  let least = row.kind === 'box' ? 0 : 1, most = 1 - least;
-  for (let place = start; place < end; place += 1) {
-    least = row.levels[place] < least ? row.levels[place] : least;
-    most = row.levels[place] > most ? row.levels[place] : most;
-  }
-  pen.moveTo(left, y(least) + 0.75);
-  pen.lineTo(left, y(most) - 0.75);
+function drawBar(pen, [low, high], left) {
+  pen.moveTo(left, low + 0.75);
+  pen.lineTo(left, high - 0.75);
 }
 
-function drawLevel(pen, row, value, left, right, low, y, last) {
-  if (value === 'true') pen.fillRect(left, y, right - left, low - y);
+function drawLevel(pen, lane, row, run, left, right, last) {
+  const y = lane.y(row.numbers[run]);
+  if (row.values[run] === 'true') pen.fillRect(left, y, right - left, lane.low - y);
   pen.moveTo(left, last === null ? y : last);
   pen.lineTo(left, y);
   pen.lineTo(right, y);
-  if (row.kind === 'number') drawWord(pen, value, left, right, y < low - 12 ? y + 8 : y - 7);
+  if (row.kind === 'number' && row === lane.rows[0]) drawWord(pen, row.values[run], left, right, y < lane.low - 12 ? y + 8 : y - 7, lane);
   return y;
 }
 
-function drawBox(pen, value, left, right, low, high) {
-  const slope = Math.min(4, (right - left) / 2), middle = (low + high) / 2;
+function drawBox(pen, value, left, right, lane) {
+  const slope = Math.min(4, (right - left) / 2), middle = (lane.low + lane.high) / 2;
   pen.moveTo(left, middle);
-  pen.lineTo(left + slope, high);
-  pen.lineTo(right - slope, high);
+  pen.lineTo(left + slope, lane.high);
+  pen.lineTo(right - slope, lane.high);
   pen.lineTo(right, middle);
-  pen.lineTo(right - slope, low);
-  pen.lineTo(left + slope, low);
+  pen.lineTo(right - slope, lane.low);
+  pen.lineTo(left + slope, lane.low);
   pen.closePath();
-  drawWord(pen, value, left, right, middle);
+  drawWord(pen, value, left, right, middle, lane);
 }
 
 // A value stands in the part of its run that is seen, where it fits.
-function drawWord(pen, value, left, right, y) {
-  const from = Math.max(left, 0), to = Math.min(right, room());
-  if (to - from > 12 && pen.measureText(value).width + 8 <= to - from) pen.fillText(value, (from + to) / 2, y);
+function drawWord(pen, value, left, right, y, lane) {
+  const from = Math.max(left, 0), to = Math.min(right, pen.canvas.clientWidth);
+  if (lane.height >= LANE && to - from > 12 && pen.measureText(value).width + 8 <= to - from) pen.fillText(value, (from + to) / 2, y);
 }
 
 // The least of 1, 2, 5, 10 and so on that leaves room for numbers.
@@ -87,49 +104,59 @@ function drawAxis(pen, from, to, x, bottom) {
 
 // A dashed line through all lanes where events stand before an instant, with their names where there is room; a red mark for refused calls.
 function drawMarks(pen, from, to, x, bottom) {
-  const event = color('event'), refused = color('refused');
+  const marks = all[at].marked(from, to), event = color('event'), refused = color('refused');
   let drawn = -1, free = -1;
   pen.strokeStyle = event;
   pen.lineWidth = 1;
   pen.textAlign = 'left';
   pen.setLineDash([4, 4]);
-  all[at].instance.before.slice(from, to + 1).forEach((marks, place) => {
-    const left = Math.round(x(from + place)) + 0.5, events = marks.filter((mark) => mark.kind === 'event').map((mark) => mark.text).join(', ');
+  for (let next = 0; next < marks.length;) {
+    const place = marks[next].place, left = Math.round(x(place)) + 0.5, names = [], before = next;
+    for (; next < marks.length && marks[next].place === place; next += 1) if (!marks[next].isRefused) names.push(marks[next].text);
     pen.fillStyle = event;
-    if (events && left > drawn) {
+    if (names.length && left > drawn) {
       pen.beginPath();
       pen.moveTo(left, left < free ? HEAD - 12 : 20);
       pen.lineTo(left, bottom);
       pen.stroke();
       drawn = left;
     }
-    if (events && left >= free) {
-      pen.fillText(events, left + 3, 27);
-      free = left + pen.measureText(events).width + 8;
+    if (names.length && left >= free) {
+      pen.fillText(names.join(', '), left + 3, 27);
+      free = left + pen.measureText(names.join(', ')).width + 8;
     }
     pen.fillStyle = refused;
-    if (marks.some((mark) => mark.kind === 'refused')) pen.fillRect(Math.max(left - 3, 0), 37, 6, 6);
-  });
+    if (next - before > names.length) pen.fillRect(Math.max(left - 3, 0), 37, 6, 6);
+  }
   pen.setLineDash([]);
 }
 
-// Draws what is seen: the ruler, and below it the lanes.
-function draw() {
-  const canvas = byId('picture'), scroll = byId('scroll'), rows = shown(), ratio = window.devicePixelRatio || 1;
-  const width = room(), height = scroll.clientHeight, left = scroll.scrollLeft, above = scroll.scrollTop;
-  const first = Math.floor(above / LANE), bottom = Math.min(HEAD + rows.length * LANE - above, height);
-  canvas.style.left = byId('names').offsetWidth + 'px';
-  canvas.style.width = width + 'px';
-  canvas.style.height = height + 'px';
-  canvas.width = width * ratio;
-  canvas.height = height * ratio;
+function drawFrame(pen, place, x, bottom, name, width) {
+  pen.strokeStyle = color(name);
+  pen.lineWidth = width;
+  pen.strokeRect(Math.round(x(place)) + 0.5, 20, Math.max(scale - 1, 0), bottom - 20);
+}
+
+// A pen for as much of the page as the lanes have.
+function takePen(width, height) {
+  const canvas = byId('picture'), ratio = window.devicePixelRatio || 1;
+  Object.assign(canvas.style, { left: byId('names').offsetWidth + 'px', width: width + 'px', height: height + 'px' });
+  Object.assign(canvas, { width: width * ratio, height: height * ratio });
   const pen = canvas.getContext('2d');
   pen.scale(ratio, ratio);
   pen.font = '12px DejaVu Sans Mono, Menlo, Consolas, monospace';
   pen.textAlign = 'center';
   pen.textBaseline = 'middle';
+  return pen;
+}
+
+// Draws what is seen: the ruler, and below it the lanes.
+function draw() {
+  const scroll = byId('scroll'), width = room(), height = scroll.clientHeight, left = scroll.scrollLeft, top = HEAD - scroll.scrollTop;
+  const pen = takePen(width, height), seen = lanes(top), bottom = Math.min(seen.reduce((sum, lane) => sum + lane.height, top), height);
   const x = (place) => place * scale - left;
   const from = Math.max(Math.floor(left / scale), 0), to = Math.min(Math.ceil((left + width) / scale), count());
+  isDue = false;
   pen.fillStyle = color('band');
   if (count()) pen.fillRect(x(cursor), 20, Math.max(scale, 1), bottom - 20);
   drawAxis(pen, from, to, x, bottom);
@@ -137,175 +164,74 @@ function draw() {
   pen.beginPath();
   pen.rect(0, HEAD, width, height);
   pen.clip();
-  rows.slice(first, first + height / LANE + 1).forEach((row, place) => {
-    const top = HEAD + (first + place) * LANE - above;
+  for (const lane of seen.filter((lane) => lane.top < height && lane.top + lane.height > HEAD)) {
     pen.strokeStyle = color('grid');
     pen.lineWidth = 1;
-    pen.strokeRect(0, top + LANE - 0.5, width, 0);
-    drawSignal(pen, row, top, from, to, x);
-  });
+    pen.strokeRect(0, lane.top + lane.height - 0.5, width, 0);
+    lane.rows.forEach((row) => drawSignal(pen, lane, row, from, to, x));
+  }
   pen.restore();
   drawMarks(pen, from, to, x, bottom);
-  pen.strokeStyle = color('cursor');
-  pen.lineWidth = pinned ? 2 : 1;
-  if (count()) pen.strokeRect(Math.round(x(cursor)) + 0.5, 20, Math.max(scale - 1, 0), bottom - 20);
+  if (marker !== null) drawFrame(pen, marker, x, bottom, 'marker', 1);
+  if (count()) drawFrame(pen, cursor, x, bottom, 'cursor', pinned ? 2 : 1);
 }
 
-// The names of the signals, each with its value at the cursor.
-function list() {
-  const names = byId('names');
-  names.replaceChildren(...shown().map((row) => {
-    const line = document.createElement('div');
-    line.className = 'row ' + row.side + (row === chosen ? ' chosen' : '');
-    line.draggable = true;
-    for (const [kind, text] of [['side', row.side], ['name', row.name], ['value', count() ? row.values[cursor] : '']]) {
-      const word = document.createElement('span');
-      word.className = kind;
-      word.textContent = text;
-      word.title = text;
-      line.append(word);
-    }
-    line.lastChild.style.minWidth = row.longest + 'ch';
-    line.onclick = () => { chosen = chosen === row ? null : row; show(); };
-    line.ondragstart = (event) => { dragged = row; event.dataTransfer.setData('text/plain', row.name); };
-    line.ondragend = () => { dragged = null; };
-    line.ondragover = (event) => { if (dragged) event.preventDefault(); };
-    line.ondrop = (event) => { event.preventDefault(); if (dragged) move(dragged, row); };
-    return line;
-  }));
+// Draws before the next frame, however often it is asked for.
+function redraw() {
+  if (!isDue) requestAnimationFrame(() => { if (isDue) draw(); });
+  isDue = true;
 }
 
-// Puts a signal in the place of another.
-function move(row, other) {
-  const rows = all[at].rows;
-  dragged = null;
-  rows.splice(rows.indexOf(other), 0, rows.splice(rows.indexOf(row), 1)[0]);
-  show();
+// The name of a signal, with its value at the cursor. It can be clicked and dragged.
+function nameOf(row, lane, place) {
+  const line = document.createElement('div');
+  line.className = 'row ' + row.side + (row === chosen ? ' chosen' : '');
+  line.style.height = lane.height / lane.rows.length + 'px';
+  line.draggable = true;
+  for (const [kind, text] of [['side', row.side], ['name', row.name], ['value', count() ? row.at(cursor) : '']]) {
+    const word = document.createElement('span');
+    word.className = kind;
+    word.textContent = text;
+    word.title = text;
+    if (place > 0 && kind === 'name') word.style.color = 'var(--' + COLORS[place % COLORS.length] + ')';
+    line.append(word);
+  }
+  line.lastChild.style.minWidth = row.longest + 'ch';
+  line.onclick = () => { chosen = chosen === row ? null : row; show(); };
+  line.ondragstart = (event) => { dragged = row; event.dataTransfer.setData('text/plain', row.name); };
+  line.ondragend = () => { dragged = null; };
+  line.ondragover = (event) => { if (dragged) event.preventDefault(); };
+  line.ondrop = (event) => { event.preventDefault(); if (dragged) move(dragged, row); };
+  return line;
 }
 
-// What the journal has at the cursor: the instant, its line, and what stands before it.
+// The line of the journal at a place of the text.
+const lineAt = (place) => text.slice(place, text.indexOf(feed, place));
+
+// What the journal has at the cursor: the instant, its line, and what stands before it; and how far the marker is.
 function tell() {
-  const { instance } = all[at], instant = instance.instants[cursor], footer = byId('line');
+  const instance = all[at], footer = byId('line');
   footer.replaceChildren();
-  const say = (text, kind) => { const part = document.createElement(kind); part.textContent = text + feed; footer.append(part); };
-  const marks = (place) => instance.before[place].forEach((mark) => say(mark.line, mark.kind === 'refused' ? 'b' : 'span'));
+  const say = (words, kind) => { const part = document.createElement(kind); part.textContent = words + feed; footer.append(part); };
+  const marks = (place) => instance.marked(place, place).forEach((mark) => say(lineAt(mark.line), mark.isRefused ? 'b' : 'span'));
   marks(cursor);
-  if (instant) say('instant ' + (cursor + 1) + ' (' + instant.number + ' since the last reset): ' + instant.line, 'span');
+  if (!count()) return;
+  say('instant ' + (cursor + 1) + ' (' + instance.numbers[cursor] + ' since the last reset): ' + lineAt(instance.lines[cursor]), 'span');
   if (cursor + 1 === count()) marks(count());
+  const far = Math.abs(cursor - marker), side = cursor < marker ? 'before' : 'behind';
+  if (marker !== null) say(far + (far === 1 ? ' instant ' : ' instants ') + side + ' the marker at instant ' + (marker + 1), 'i');
+}
+
+// Makes the page as wide as its instants are now.
+function widen() {
+  byId('wide').style.minWidth = count() * scale + MARGIN + 'px';
+  redraw();
 }
 
 function show() {
-  byId('wide').style.minWidth = count() * scale + MARGIN + 'px';
-  list();
+  byId('names').replaceChildren(...lanes(HEAD).flatMap((lane) => lane.rows.map((row, place) => nameOf(row, lane, place))));
   tell();
-  draw();
+  widen();
 }
 
-// ---- What one can do.
-
-function zoom(factor, about) {
-  const scroll = byId('scroll'), place = (scroll.scrollLeft + about) / scale;
-  scale = Math.min(Math.max(scale * factor, fitting()), Math.min(160, MOST / Math.max(count(), 1)));
-  show();
-  scroll.scrollLeft = place * scale - about;
-}
-
-const within = (place) => Math.min(Math.max(place, 0), Math.max(count() - 1, 0));
-
-// Puts the cursor to an instant, where it stays, and scrolls there.
-function go(place) {
-  cursor = within(place);
-  pinned = true;
-  const scroll = byId('scroll'), left = cursor * scale;
-  if (left < scroll.scrollLeft || left + scale > scroll.scrollLeft + room()) scroll.scrollLeft = left - room() / 2;
-  show();
-}
-
-// The mouse moves the cursor where it isn't pinned. A click pins it, another at its place lets it go. The marks there are named.
-function point(event, clicked) {
-  const far = event.offsetX + byId('scroll').scrollLeft, place = within(Math.floor(far / scale));
-  const marks = all[at].instance.before.slice(Math.max(Math.ceil((far - 4) / scale), 0), Math.floor((far + 4) / scale) + 1).flat();
-  byId('picture').title = marks.map((mark) => mark.kind === 'event' ? mark.text : mark.line).join(feed);
-  if (clicked) pinned = !pinned || place !== cursor;
-  if (clicked || !pinned && place !== cursor) { cursor = place; show(); }
-}
-
-// The next instant at which the chosen signal, or any that is shown, has another value than before.
-function change(step) {
-  const rows = chosen && chosen.shown ? [chosen] : shown();
-  for (let place = cursor + step; place > 0 && place < count(); place += step) {
-    if (rows.some((row) => row.values[place] !== row.values[place - 1])) return go(place);
-  }
-}
-
-const listed = () => all[at].rows.filter((row) => row.name.includes(byId('filter').value));
-
-// Lists the signals that can be shown; with a truth value, which says so, all of them are or aren't.
-function choose(is) {
-  byId('signals').replaceChildren(...listed().map((row) => {
-    if (is !== undefined) row.shown = is;
-    const label = document.createElement('label'), box = document.createElement('input');
-    box.type = 'checkbox';
-    box.checked = row.shown;
-    box.onchange = () => { row.shown = box.checked; show(); };
-    label.append(box, ' ' + row.name);
-    return label;
-  }));
-}
-
-function visit(place) {
-  at = place;
-  cursor = 0;
-  chosen = null;
-  pinned = false;
-  byId('title').textContent = all[at].instance.name + ': ' + all[at].instance.node + all[at].instance.early;
-  document.title = byId('title').textContent;
-  choose();
-  list();
-  scale = Math.min(Math.max(fitting(), 12), 80, MOST / Math.max(count(), 1));
-  byId('scroll').focus();
-  show();
-}
-
-// Where the cursor is seen, else the middle.
-function middle() {
-  const place = cursor * scale - byId('scroll').scrollLeft;
-  return place >= 0 && place <= room() ? place : room() / 2;
-}
-
-const keys = {
-  ArrowLeft: () => go(cursor - 1), ArrowRight: () => go(cursor + 1), Home: () => go(0), End: () => go(count() - 1),
-  n: () => change(1), p: () => change(-1), '+': () => zoom(1.5, middle()), '-': () => zoom(1 / 1.5, middle()), f: () => zoom(0, 0),
-};
-byId('scroll').onscroll = draw;
-document.onkeydown = (event) => {
-  const { key, target } = event, menu = byId('menu');
-  if (key === 'Escape') {
-    if (menu.open) menu.open = false;
-    else pinned = false;
-    byId('scroll').focus();
-    show();
-  } else if (keys[key] && !event.ctrlKey && !event.altKey && !event.metaKey && !target.matches('select,#filter')) {
-    event.preventDefault();
-    keys[key]();
-  }
-};
-document.onmousedown = (event) => { if (!byId('menu').contains(event.target)) byId('menu').open = false; };
-byId('picture').onmousemove = (event) => point(event, false);
-byId('picture').onclick = (event) => point(event, true);
-byId('picture').addEventListener('wheel', (event) => {
-  if (!event.ctrlKey) return;
-  event.preventDefault();
-  zoom(event.deltaY < 0 ? 1.2 : 1 / 1.2, event.offsetX);
-}, { passive: false });
-for (const [id, key] of [['closer', '+'], ['farther', '-'], ['whole', 'f'], ['previous', 'p'], ['next', 'n']]) byId(id).onclick = keys[key];
-byId('filter').oninput = () => choose();
-for (const [id, is] of [['every', true], ['none', false]]) byId(id).onclick = () => { choose(is); show(); };
-byId('instance').replaceChildren(...all.map(({ instance }, place) => new Option(instance.name, place)));
-byId('instance').onchange = (event) => visit(Number(event.target.value));
-byId('instance').hidden = all.length < 2;
-window.onresize = show;
-matchMedia('(prefers-color-scheme:dark)').onchange = show;
-if (all.length) visit(0);
-</script>
 ";

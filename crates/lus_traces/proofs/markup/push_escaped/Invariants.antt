@@ -1,7 +1,7 @@
--- The bytes so far stand escaped behind the old text.
-use Rattle.std.proofs.Common.{◌≡◌, ◌++◌, flat_map, string_bytes, take}
+-- The characters so far stand escaped behind the old text.
+use Rattle.std.proofs.Common.{◌≡◌, ◌++◌, flat_map, string_bytes}
 use Rattle.lus_traces.specs.Markup.{escape}
 use Rattle.lus_traces.proofs.markup.push_escaped.Given as goal
 
-abbrev pub invariant-loop-byte : goal.invariant-loop-byte
-invariant-loop-byte l = string_bytes l.out ≡ string_bytes l.initial.out ++ flat_map escape (take l.byte-index l.byte-items)
+abbrev pub invariant-loop-letter : goal.invariant-loop-letter
+invariant-loop-letter l = string_bytes l.out ≡ string_bytes l.initial.out ++ flat_map escape l.yielded
