@@ -59,22 +59,27 @@ pub fn spelling_finding(
     }
 }
 
-/// The operators that a change may leave out that is told of a refusal with a number: the point between a type and its constructor, and
-/// the clock of a declaration.
+/// The operators that a change may leave out that is told of a refusal with a number: the point between a type and its constructor, the
+/// equals sign behind the name of an argument or of a second equation, the implication, numbers for truth values, the clock of a
+/// declaration, and an `if` that a `merge` stands for.
 fn may_drop(number: RefusalNumber) -> &'static [&'static str] {
     match number {
-        RefusalNumber::Name => &["."],
-        RefusalNumber::Clock => &["when", "not"],
+        RefusalNumber::Name => &[".", "="],
+        RefusalNumber::Type => &["=>", "if", "then", "else", "1", "0"],
+        RefusalNumber::Clock => &["when", "not", "if", "then", "else"],
         _ => &[],
     }
 }
 
-/// The operators that it may put in: those of what other languages have built in, of branches, of clocks, of first values, and of
-/// memories.
+/// The operators that it may put in: those of what other languages have built in, of fields, of branches, of clocks, of first values, and
+/// of memories.
 fn may_add(number: RefusalNumber) -> &'static [&'static str] {
     match number {
-        RefusalNumber::Name => &["if", "<", "then", "-", "else", "when", "not"],
-        RefusalNumber::Type | RefusalNumber::Nil => &["->"],
+        RefusalNumber::Name => &[
+            "if", "<", "then", "-", "else", "when", "not", "and", "->", "pre", "=",
+        ],
+        RefusalNumber::Type => &["->", ">=", ".", "<>"],
+        RefusalNumber::Nil => &["->"],
         RefusalNumber::Clock => &["when", "not", "merge", "->"],
         RefusalNumber::Cycle => &["pre", "->"],
         _ => &[],

@@ -1,20 +1,29 @@
 //! What is said of a fault of clocks.
 
+use crate::choosing::chosen;
 use crate::clock::Clocks;
+use crate::completing::value_of_variable;
 use crate::declared::wrong_clock;
 use crate::mending::{Context, mended};
 use crate::placing::{Misplaced, misplaced_in};
-use crate::redeclaring::{Redeclared, declaration_at_fault};
-use crate::sampling::note_on_memory;
+use crate::redeclaring::{Redeclared, declaration_at_fault, declaration_of_result};
+use crate::sampling::{is_sampled_otherwise, note_on_memory};
+use crate::unnamed::unnamed_clock;
 use lus_faults::{Finding, Sought, extent_of, slice_of, start_of};
-use lus_syntax::{Refusal, Tree};
+use lus_syntax::{Name, Refusal, Tree};
 use std::alloc::{AllocError, Global};
 
-/// The sentence on an expression that is on another clock than its place.
+/// The sentence on an expression that is on another clock than its place, or on a result that is on another one than its variable.
 fn sentence_on(alloc: Global, source: &str, found: Misplaced<'_>) -> Result<String, AllocError> {
-    let text = slice_of(source, extent_of(source, found.expr));
     let has = found.has.told(alloc)?;
     let wanted = found.wanted.told(alloc)?;
+    if let Some((left, output)) = found.result {
+        let (left, output) = (left.text.as_str(), output.text.as_str());
+        return format!(in alloc;
+            "the output `{output}` is {has}, but the variable `{left}` for it is {wanted}"
+        );
+    }
+    let text = slice_of(source, extent_of(source, found.expr));
     format!(in alloc; "`{text}` is {has}, but this place is {wanted}")
 }
 
@@ -38,12 +47,42 @@ fn advice_on(alloc: Global, on: Context<'_>, found: Misplaced<'_>) -> Result<Str
             None => String::from_str(alloc, "Sample it with `when`."),
         };
     }
+    if is_sampled_otherwise(found)
+        && let Some(tick) = found.wanted.newest
+    {
+        let test = tick.test(alloc)?;
+        return format!(in alloc; "Perhaps `when {test}` is meant, as at this place.");
+    }
     let note = match on.clocks.leading(found.wanted, found.has) {
         Some(_) =>
             "Give it a value at the other instants with `merge`, or declare the left side on its clock.",
         None => note_on(found),
     };
     String::from_str(alloc, note)
+}
+
+/// What is said of a branch of a `merge` over the variable that its equation defines, which is a cycle whatever its clocks are.
+fn note_on_own_merge(
+    alloc: Global,
+    on: Context<'_>,
+    found: Misplaced<'_>,
+) -> Result<Option<String>, AllocError> {
+    let Some(tick) = found.wanted.newest else {
+        return Ok(None);
+    };
+    let name = tick.variable.text.as_str();
+    if !on
+        .equation
+        .left
+        .iter()
+        .any(|left| left.text.as_str() == name)
+    {
+        return Ok(None);
+    }
+    let first = value_of_variable(on.clocks, name).unwrap_or("init");
+    Ok(Some(format!(in alloc;
+        "`{name}` is merged in its own equation, which is a cycle. Give its value before a name, as in `before = {first} fby {name};`, and write `merge before` and `when {first}(before)`."
+    )?))
 }
 
 /// What is said of an expression that is on another clock than its place, among all of its equation that are.
@@ -56,16 +95,46 @@ fn told(
     let span = extent_of(on.source, found.expr);
     let sentence = sentence_on(alloc, on.source, found)?;
     let mut finding = Finding::new(alloc, sentence, span.length);
+    if let Some((left, _)) = found.result {
+        return told_of_result(alloc, on, finding, left, found);
+    }
     if let Some(left) = on.equation.left.first() {
         let name = left.text.as_str();
         finding.relate(left.span, format!(in alloc; "the equation of `{name}`")?)?;
     }
+    if let Some(note) = note_on_own_merge(alloc, on, found)? {
+        finding.note = Some(note);
+        return Ok(finding);
+    }
     if let Some(other) = declaration_at_fault(alloc, on, found)? {
         return told_of(alloc, finding, other);
+    }
+    if let Some(edit) = chosen(alloc, on, found)? {
+        let note =
+            "An `if` needs both values at every instant. A `merge` chooses between values on clocks.";
+        return Ok(finding.with_note(alloc, note)?.with_edit(Some(edit)));
     }
     finding.note = Some(advice_on(alloc, on, found)?);
     finding.edit = mended(alloc, on, found, all)?;
     Ok(finding)
+}
+
+/// A finding on a result with the declaration of its variable, and how that would read.
+fn told_of_result(
+    alloc: Global,
+    on: Context<'_>,
+    finding: Finding,
+    left: &Name,
+    found: Misplaced<'_>,
+) -> Result<Finding, AllocError> {
+    let mut finding = finding;
+    let name = left.text.as_str();
+    let clock = found.has.told(alloc)?;
+    finding.relate(left.span, format!(in alloc; "`{name}` takes it here")?)?;
+    finding.note = Some(format!(in alloc;
+        "A result has the clock of its output: `{name}` is declared {clock}, and a `merge` gives it a value at the other instants."
+    )?);
+    Ok(finding.with_edit(declaration_of_result(alloc, on, left, found.has)?))
 }
 
 /// A finding with the declaration that it comes from, and how that would read.
@@ -105,6 +174,9 @@ pub fn clock_cause(
         return Ok(None);
     };
     if let Some(found) = wrong_clock(alloc, sought, node)? {
+        return Ok(Some(found));
+    }
+    if let Some(found) = unnamed_clock(alloc, source, sought, tree, node)? {
         return Ok(Some(found));
     }
     let clocks = Clocks {

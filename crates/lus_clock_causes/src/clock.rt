@@ -1,7 +1,7 @@
 //! Clocks of a node's variables.
 
 use lus_faults::variable_named;
-use lus_syntax::{Group, Label, Name, Node, Test, Tree};
+use lus_syntax::{Label, Name, Node, Test, Tree};
 use std::alloc::{AllocError, Global};
 
 /// The newest test of a clock: a variable, and the constructor or the truth value that it has.
@@ -35,11 +35,7 @@ pub struct Clocks<'t> {
 impl<'t> Clock<'t> {
     /// The clock at which a test holds.
     pub fn on(test: &'t Test) -> Clock<'t> {
-        let label = match test {
-            Test::Holds(_) => "true",
-            Test::Fails(_, _) => "false",
-            Test::Is(label, _) => text_of_label(label),
-        };
+        let label = label_of(test);
         let variable = variable_of(test);
         Clock {
             newest: Some(Tick { variable, label }),
@@ -84,6 +80,15 @@ impl<'t> Tick<'t> {
     }
 }
 
+/// The text of the value that a test is for.
+pub fn label_of(test: &Test) -> &str {
+    match test {
+        Test::Holds(_) => "true",
+        Test::Fails(_, _) => "false",
+        Test::Is(label, _) => text_of_label(label),
+    }
+}
+
 /// The variable of a test.
 pub fn variable_of(test: &Test) -> &Name {
     match test {
@@ -98,16 +103,6 @@ pub fn text_of_label(label: &Label) -> &str {
         Label::Truth(true, _) => "true",
         Label::Truth(false, _) => "false",
     }
-}
-
-/// Whether all variables of groups are on the base clock.
-fn are_plain(groups: &[Group]) -> bool {
-    for group in groups {
-        if group.test.is_some() {
-            return false;
-        }
-    }
-    true
 }
 
 impl<'t> Assumed<'t> {
@@ -148,15 +143,5 @@ impl<'t> Clocks<'t> {
             Some(tested) if tested.is(from) => Some(tick),
             _ => None,
         }
-    }
-
-    /// Whether a node has all its inputs and outputs on the base clock.
-    pub fn is_plain(self, name: &str) -> bool {
-        for node in &self.tree.nodes {
-            if node.name.text.as_str() == name {
-                return are_plain(&node.inputs) && are_plain(&node.outputs);
-            }
-        }
-        false
     }
 }

@@ -1,5 +1,6 @@
 //! An expression that is on a slower clock than its place, and how a `merge` completes it.
 
+use crate::called::formal_at;
 use crate::clock::{Clocks, Tick};
 use crate::placing::{Misplaced, bare};
 use crate::sampling::is_whole;
@@ -42,12 +43,26 @@ fn type_of<'t>(clocks: Clocks<'t>, expr: &Expr) -> Option<Plain<'t>> {
             Some(Plain::Bool)
         }
         Expr::Name(name) => type_of_variable(clocks, name.text.as_str()),
+        Expr::Call(name, _) => {
+            let output = formal_at(&clocks.node_named(name)?.outputs, 0)?;
+            resolved(clocks.tree, &output.group.type_name, MOST_ALIASES)
+        }
         Expr::Binary(Infix::Compute(op), _, _) => match op.shape() {
             Shape::Int | Shape::Ints => Some(Plain::Int),
             _ => Some(Plain::Bool),
         },
         _ => None,
     }
+}
+
+/// A value of the type of a variable.
+pub fn value_of_variable<'t>(clocks: Clocks<'t>, name: &str) -> Option<&'t str> {
+    value_of(type_of_variable(clocks, name)?)
+}
+
+/// A value of the type of an expression, where its variables or its operators tell it: `0`, `false` or a constructor.
+pub fn value_of_its_type<'t>(clocks: Clocks<'t>, expr: &Expr) -> Option<&'t str> {
+    value_of(type_of(clocks, expr)?)
 }
 
 /// Appends a branch: what is completed where the label is the test's, else the value of the other instants.
@@ -103,14 +118,11 @@ pub fn completed(
     found: Misplaced<'_>,
     tick: Tick<'_>,
 ) -> Result<Option<Edit>, AllocError> {
-    let (None, Some(constructors), Some(value_type)) = (
+    let (None, Some(constructors), Some(value)) = (
         found.memory,
         constructors_of(clocks, tick),
-        type_of(clocks, found.expr),
+        value_of_its_type(clocks, found.expr),
     ) else {
-        return Ok(None);
-    };
-    let Some(value) = value_of(value_type) else {
         return Ok(None);
     };
     let span = extent_of(source, found.expr);

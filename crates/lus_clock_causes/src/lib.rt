@@ -1,7 +1,9 @@
 //! What is said of clocks that disagree.
 #![tactic(auto)]
 
+mod called;
 mod cause;
+mod choosing;
 mod clock;
 mod completing;
 mod declared;
@@ -9,5 +11,6 @@ mod mending;
 mod placing;
 mod redeclaring;
 mod sampling;
+mod unnamed;
 
 pub use cause::clock_cause;

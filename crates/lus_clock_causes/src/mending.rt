@@ -5,7 +5,7 @@ ghost use Rattle.std.specs.Prelude.{◌≤◌, length};
 use crate::clock::Clocks;
 use crate::completing::completed;
 use crate::placing::Misplaced;
-use crate::sampling::sampled;
+use crate::sampling::{is_sampled_otherwise, resampled, sampled};
 use lus_faults::{Edit, bytes_at};
 use lus_syntax::Equation;
 use std::alloc::{AllocError, Global};
@@ -21,15 +21,22 @@ pub struct Context<'t> {
     pub equation: &'t Equation,
 }
 
-/// The change that brings an expression to the clock of its place, where one test leads between the two.
+/// The change that brings an expression to the clock of its place, where one test leads between the two. The clock of a result is that of
+/// its variable.
 fn change_of(
     alloc: Global,
     on: Context<'_>,
     found: Misplaced<'_>,
 ) -> Result<Option<Edit>, AllocError> {
+    if found.result.is_some() {
+        return Ok(None);
+    }
     if let Some(tick) = on.clocks.leading(found.has, found.wanted) {
         let test = tick.test(alloc)?;
-        return sampled(alloc, on.source, on.equation, found, &test);
+        return sampled(alloc, on, found, &test);
+    }
+    if is_sampled_otherwise(found) {
+        return resampled(alloc, on.source, found);
     }
     match on.clocks.leading(found.wanted, found.has) {
         Some(tick) => completed(alloc, on.source, on.clocks, on.equation, found, tick),

@@ -1,16 +1,18 @@
 //! Where an expression isn't on the clock of its place.
 
+use crate::called::{Called, formal_at};
 use crate::clock::{Clock, Clocks, Tick, text_of_label, variable_of};
 use lus_faults::start_of;
 use lus_syntax::{Equation, Expr, Infix, Lead, Name, Part, Prefix};
 use std::alloc::{AllocError, Global};
 
-/// An expression that is on another clock than its place: of a variable, or by `when`; and the innermost `pre` or `fby` that it is
-/// remembered by, with the `->` before a `pre`.
+/// An expression that is on another clock than its place: of a variable, of a call, or by `when`; the innermost `pre` or `fby` that it is
+/// remembered by, with the `->` before a `pre`; and of a result of the call on the right the variable on the left, and the output.
 #[derive(Clone, Copy)]
 pub struct Misplaced<'t> {
     pub expr: &'t Expr,
     pub memory: Option<&'t Expr>,
+    pub result: Option<(&'t Name, &'t Name)>,
     pub has: Clock<'t>,
     pub wanted: Clock<'t>,
 }
@@ -45,12 +47,20 @@ pub fn bare(expr: &Expr) -> &Expr {
     }
 }
 
-/// The clock that an expression has wherever it stands: that of a variable, of a `when` or of a `merge`, in parentheses or not.
-fn own_clock<'t>(clocks: Clocks<'t>, expr: &'t Expr) -> Option<Clock<'t>> {
+/// The clock that an expression has at a place of this clock: that of a variable, of a call, of a `when` or of a `merge`, in parentheses or
+/// not.
+fn own_clock<'t>(clocks: Clocks<'t>, expr: &'t Expr, wanted: Clock<'t>) -> Option<Clock<'t>> {
     match bare(expr) {
         Expr::Name(name) => clocks.clock(name.text.as_str()),
         Expr::Merge(_, variable, _) => clocks.clock(variable.text.as_str()),
         Expr::When(_, test) => Some(Clock::on(test)),
+        Expr::Call(name, parts) => {
+            let called = clocks.called(name, parts, &[])?;
+            called.clock_of(
+                formal_at(&called.node.outputs, 0)?,
+                called.base(clocks, wanted),
+            )
+        }
         _ => None,
     }
 }
@@ -74,12 +84,13 @@ fn remember<'t>(search: &mut Search<'t>, before: usize, expr: &'t Expr, clock: C
 /// Adds an expression, if it isn't on the clock that it should be on, and then those in it.
 #[cycle(placing)]
 fn add<'t>(search: &mut Search<'t>, expr: &'t Expr, wanted: Clock<'t>) -> Result<(), AllocError> {
-    if let Some(has) = own_clock(search.clocks, expr)
+    if let Some(has) = own_clock(search.clocks, expr, wanted)
         && !has.is(wanted)
     {
         search.found.push(Misplaced {
             expr,
             memory: None,
+            result: None,
             has,
             wanted,
         })?;
@@ -96,10 +107,14 @@ fn add_operands<'t>(
 ) -> Result<(), AllocError> {
     match expr {
         Expr::Number(_, _) | Expr::Truth(_, _) | Expr::Name(_) => Ok(()),
-        Expr::Call(name, _) if !search.clocks.is_plain(name.text.as_str()) => Ok(()),
-        Expr::Call(_, parts) | Expr::Structure(_, parts) | Expr::Variadic(_, _, parts) => {
-            add_parts(search, parts, wanted)
-        }
+        Expr::Call(name, parts) => match search.clocks.called(name, parts, &[]) {
+            Some(called) => {
+                let base = called.base(search.clocks, wanted);
+                add_arguments(search, called, parts, base)
+            }
+            None => Ok(()),
+        },
+        Expr::Structure(_, parts) | Expr::Variadic(_, _, parts) => add_parts(search, parts, wanted),
         Expr::Merge(_, variable, parts) => add_branches(search, variable, parts),
         Expr::Field(operand, _) | Expr::Parentheses(_, operand) => add(search, operand, wanted),
         Expr::When(operand, test) => {
@@ -141,6 +156,26 @@ fn add_parts<'t>(
     Ok(())
 }
 
+/// Each argument of a call is on the clock of its input.
+#[cycle(placing)]
+fn add_arguments<'t>(
+    search: &mut Search<'t>,
+    called: Called<'t>,
+    parts: &'t [Part],
+    base: Clock<'t>,
+) -> Result<(), AllocError> {
+    let mut number = 0usize;
+    for part in parts {
+        if let Some(input) = formal_at(&called.node.inputs, number)
+            && let Some(wanted) = called.clock_of(input, base)
+        {
+            add(search, &part.value, wanted)?;
+        }
+        number = number.saturating_add(1);
+    }
+    Ok(())
+}
+
 /// Each branch is on the clock of the merged variable with its own label.
 #[cycle(placing)]
 fn add_branches<'t>(
@@ -158,6 +193,41 @@ fn add_branches<'t>(
     Ok(())
 }
 
+/// Adds the results of the call on the right of an equation that aren't on the clock of their variable on the left.
+fn add_results<'t>(
+    search: &mut Search<'t>,
+    right: &'t Expr,
+    called: Called<'t>,
+    base: Clock<'t>,
+) -> Result<(), AllocError> {
+    for (number, left) in called.left.iter().enumerate() {
+        if let Some(output) = formal_at(&called.node.outputs, number)
+            && let Some(has) = called.clock_of(output, base)
+            && let Some(wanted) = search.clocks.clock(left.text.as_str())
+            && !has.is(wanted)
+        {
+            search.found.push(Misplaced {
+                expr: right,
+                memory: None,
+                result: Some((left, output.name)),
+                has,
+                wanted,
+            })?;
+        }
+    }
+    Ok(())
+}
+
+/// The call of several results that is the right side of an equation, if that is one.
+fn call_of<'t>(clocks: Clocks<'t>, equation: &'t Equation) -> Option<Called<'t>> {
+    match bare(&equation.right) {
+        Expr::Call(name, parts) if equation.left.len() > 1 => {
+            clocks.called(name, parts, &equation.left)
+        }
+        _ => None,
+    }
+}
+
 /// The expressions of an equation that aren't on the clock of their place, each before those in it.
 pub fn misplaced_in<'t>(
     alloc: Global,
@@ -168,10 +238,19 @@ pub fn misplaced_in<'t>(
         clocks,
         found: Vec::new(alloc),
     };
-    if let Some(first) = equation.left.first()
-        && let Some(wanted) = clocks.clock(first.text.as_str())
-    {
-        add(&mut search, &equation.right, wanted)?;
+    let Some(first) = equation.left.first() else {
+        return Ok(search.found);
+    };
+    let Some(wanted) = clocks.clock(first.text.as_str()) else {
+        return Ok(search.found);
+    };
+    match call_of(clocks, equation) {
+        Some(called) => {
+            let base = called.base(clocks, wanted);
+            add_results(&mut search, &equation.right, called, base)?;
+            add_arguments(&mut search, called, called.arguments, base)?;
+        }
+        None => add(&mut search, &equation.right, wanted)?,
     }
     Ok(search.found)
 }

@@ -69,13 +69,14 @@ fn declared_as(alloc: Global, type_name: &str, clock: Clock<'_>) -> Result<Strin
     }
 }
 
-/// A variable with a clock, where at least two equations are mended by it and none fails that was right. The other
-/// variables of its group get it too, where that mends more.
+/// A variable with a clock, where so many equations are mended by it and none fails that was right. The other variables of its group get it
+/// too, where that mends more.
 fn with_clock<'t>(
     alloc: Global,
     on: Context<'t>,
     name: &'t Name,
     clock: Clock<'t>,
+    fewest: usize,
 ) -> Result<Option<Redeclared<'t>>, AllocError> {
     let Some(variable) = variable_named(on.clocks.node, name.text.as_str()) else {
         return Ok(None);
@@ -88,7 +89,7 @@ fn with_clock<'t>(
     let one = alone(group, name.text.as_str());
     let mended = mended_with(alloc, on.clocks, &before, one, clock)?;
     let mended_by_all = mended_with(alloc, on.clocks, &before, group.names.as_slice(), clock)?;
-    if mended < FEWEST_MENDED && mended_by_all < FEWEST_MENDED {
+    if mended < fewest && mended_by_all < fewest {
         return Ok(None);
     }
     let names = if mended_by_all > mended {
@@ -116,13 +117,26 @@ pub fn declaration_at_fault<'t>(
     if let Some(left) = on.equation.left.first()
         && on.equation.left.len() == 1
     {
-        let defined = with_clock(alloc, on, left, found.has)?;
+        let defined = with_clock(alloc, on, left, found.has, FEWEST_MENDED)?;
         if defined.is_some() {
             return Ok(defined);
         }
     }
     match bare(found.expr) {
-        Expr::Name(name) => with_clock(alloc, on, name, found.wanted),
+        Expr::Name(name) => with_clock(alloc, on, name, found.wanted, FEWEST_MENDED),
         _ => Ok(None),
+    }
+}
+
+/// The change that declares the variable of a result with the result's clock, whichever equations use it.
+pub fn declaration_of_result<'t>(
+    alloc: Global,
+    on: Context<'t>,
+    left: &'t Name,
+    clock: Clock<'t>,
+) -> Result<Option<Edit>, AllocError> {
+    match with_clock(alloc, on, left, clock, 0)? {
+        Some(declared) => Ok(declared.edit),
+        None => Ok(None),
     }
 }

@@ -1,5 +1,7 @@
 //! An expression that is on a faster clock than its place, and how it is sampled.
 
+use crate::completing::value_of_its_type;
+use crate::mending::Context;
 use crate::placing::{Misplaced, bare};
 use lus_faults::{Edit, extent_of, slice_of, start_of};
 use lus_syntax::{Equation, Expr, Span};
@@ -39,23 +41,26 @@ pub fn is_whole(source: &str, equation: &Equation, span: Span) -> bool {
     (before == b'(' || before == b',') && (behind == b')' || behind == b',')
 }
 
-/// The change of a source that samples an expression by a test.
+/// The change of a source that samples an expression by a test, with a first value before it, if one is given.
 fn sampling(
     alloc: Global,
-    source: &str,
-    equation: &Equation,
+    on: Context<'_>,
     expr: &Expr,
+    first: Option<&str>,
     test: &str,
 ) -> Result<Edit, AllocError> {
-    let span = extent_of(source, expr);
+    let span = extent_of(on.source, expr);
     let inner = bare(expr);
-    let operand = slice_of(source, extent_of(source, inner));
-    let is_whole = is_whole(source, equation, span);
-    let text = match (matches!(inner, Expr::Name(_)), is_whole) {
-        (true, true) => format!(in alloc; "{operand} when {test}")?,
-        (true, false) => format!(in alloc; "({operand} when {test})")?,
-        (false, true) => format!(in alloc; "({operand}) when {test}")?,
-        (false, false) => format!(in alloc; "(({operand}) when {test})")?,
+    let text = slice_of(on.source, extent_of(on.source, inner));
+    let operand = match first {
+        Some(first) => format!(in alloc; "({first} -> {text})")?,
+        None if matches!(inner, Expr::Name(_)) => String::from_str(alloc, text)?,
+        None => format!(in alloc; "({text})")?,
+    };
+    let text = if is_whole(on.source, on.equation, span) {
+        format!(in alloc; "{operand} when {test}")?
+    } else {
+        format!(in alloc; "({operand} when {test})")?
     };
     Ok(Edit {
         byte: span.start.byte,
@@ -64,7 +69,7 @@ fn sampling(
     })
 }
 
-/// What is said of an expression that is remembered before it is sampled.
+/// What is said of an expression that is remembered before it is sampled: without a first value only perhaps.
 pub fn note_on_memory(
     alloc: Global,
     source: &str,
@@ -74,29 +79,65 @@ pub fn note_on_memory(
 ) -> Result<String, AllocError> {
     let name = slice_of(source, extent_of(source, found.expr));
     let text = slice_of(source, extent_of(source, memory));
-    let first = if matches!(memory, Expr::Binary(_, _, _)) {
-        ""
+    let (front, first, behind) = if matches!(memory, Expr::Binary(_, _, _)) {
+        ("", "", "")
     } else {
-        "init -> "
+        (
+            "Perhaps the last value is meant: ",
+            "init -> ",
+            ", with a first value of your choice",
+        )
     };
     format!(in alloc;
-        "`{text}` runs on the clock of `{name}` and is then sampled, as `({first}{text}) when {test}`. With `{name} when {test}` inside, it remembers only the instants of `{test}`."
+        "{front}`{text}` runs on the clock of `{name}` and is then sampled, as `({first}{text}) when {test}`{behind}. With `{name} when {test}` inside, it remembers only the instants of `{test}`."
     )
 }
 
 /// The change of a source that samples an expression by a test: where it is remembered, the memory is sampled, and not what it
-/// remembers; none where a `pre` has no first value.
+/// remembers; a `pre` gets a first value that it lacks.
 pub fn sampled(
     alloc: Global,
-    source: &str,
-    equation: &Equation,
+    on: Context<'_>,
     found: Misplaced<'_>,
     test: &str,
 ) -> Result<Option<Edit>, AllocError> {
-    let sampled = match found.memory {
-        None => found.expr,
-        Some(memory) if matches!(memory, Expr::Binary(_, _, _)) => memory,
-        Some(_) => return Ok(None),
+    let (sampled, first) = match found.memory {
+        None => (found.expr, None),
+        Some(memory) if matches!(memory, Expr::Binary(_, _, _)) => (memory, None),
+        Some(memory) => match value_of_its_type(on.clocks, found.expr) {
+            Some(value) => (memory, Some(value)),
+            None => return Ok(None),
+        },
     };
-    Ok(Some(sampling(alloc, source, equation, sampled, test)?))
+    Ok(Some(sampling(alloc, on, sampled, first, test)?))
+}
+
+/// Whether an expression is sampled by another value of the variable that its place is sampled by.
+pub fn is_sampled_otherwise(found: Misplaced<'_>) -> bool {
+    match (bare(found.expr), found.has.newest, found.wanted.newest) {
+        (Expr::When(_, _), Some(has), Some(wanted)) => {
+            has.variable.text.as_str() == wanted.variable.text.as_str()
+        }
+        _ => false,
+    }
+}
+
+/// The change of a source that samples such an expression as its place is.
+pub fn resampled(
+    alloc: Global,
+    source: &str,
+    found: Misplaced<'_>,
+) -> Result<Option<Edit>, AllocError> {
+    let inner = bare(found.expr);
+    let (Expr::When(operand, _), Some(wanted)) = (inner, found.wanted.newest) else {
+        return Ok(None);
+    };
+    let byte = extent_of(source, operand).end().byte;
+    let end = extent_of(source, inner).end().byte;
+    let test = wanted.test(alloc)?;
+    Ok(Some(Edit {
+        byte,
+        length: end.saturating_sub(byte),
+        text: format!(in alloc; " when {test}")?,
+    }))
 }

@@ -64,36 +64,24 @@ fn has(names: &[Name], name: &Name) -> bool {
     false
 }
 
-/// Appends names, with commas between them.
-fn push_name(text: &mut String, name: &Name) -> Result<(), AllocError> {
-    if !text.as_str().is_empty() {
-        text.push_str(", ")?;
+/// Appends variables with a type, behind those before them.
+fn push_group(text: &mut String, names: &[Name], declared: &str) -> Result<(), AllocError> {
+    if names.is_empty() {
+        return Ok(());
     }
-    text.push_str(name.text.as_str())
+    if !text.is_empty() {
+        text.push_str("; ")?;
+    }
+    for (place, name) in names.iter().enumerate() {
+        let comma = if place > 0 { ", " } else { "" };
+        let name = name.text.as_str();
+        write!(text, "{comma}{name}")?;
+    }
+    write!(text, ": {declared}")
 }
 
-/// The names of a group that are not among some, with commas between them.
-fn others(alloc: Global, group: &Group, names: &[Name]) -> Result<String, AllocError> {
-    let mut text = String::new(alloc);
-    for name in &group.names {
-        if !has(names, name) {
-            push_name(&mut text, name)?;
-        }
-    }
-    Ok(text)
-}
-
-/// The names of some, with commas between them.
-fn listed(alloc: Global, names: &[Name]) -> Result<String, AllocError> {
-    let mut text = String::new(alloc);
-    for name in names {
-        push_name(&mut text, name)?;
-    }
-    Ok(text)
-}
-
-/// The change of a source that declares some variables of a group with another type or clock, which stand in a text as behind a colon:
-/// the whole group, or these variables behind the others.
+/// The change of a source that declares some variables of a group, which stand together in it, with another type or clock, which stand in a
+/// text as behind a colon: the whole group, or these variables between the others.
 pub fn redeclaring(
     alloc: Global,
     source: &str,
@@ -114,14 +102,30 @@ pub fn redeclaring(
             text,
         }));
     }
-    let before = bytes_at(source, type_start, end).unwrap_or("");
-    let rest = others(alloc, group, names)?;
-    let moved = listed(alloc, names)?;
+    let as_before = bytes_at(source, type_start, end).unwrap_or("");
     let start = first.span.start.byte;
+    let count = group
+        .names
+        .iter()
+        .take_while(|name| !has(names, name))
+        .count();
+    let behind = count.saturating_add(names.len());
+    let mut text = String::new(alloc);
+    push_group(
+        &mut text,
+        group.names.get(..count).unwrap_or(&[]),
+        as_before,
+    )?;
+    push_group(&mut text, names, declared)?;
+    push_group(
+        &mut text,
+        group.names.get(behind..).unwrap_or(&[]),
+        as_before,
+    )?;
     Ok(Some(Edit {
         byte: start,
         length: end.saturating_sub(start),
-        text: format!(in alloc; "{rest}: {before}; {moved}: {declared}")?,
+        text,
     }))
 }
 

@@ -111,8 +111,9 @@ fn told_by_rule(
         if (is_first || is_kin)
             && let Some(found) = rule.fit(alloc, fault)?
         {
-            if is_kin || is_plain(rule) {
-                return rewritten(alloc, fault, &found, rule.rewrite);
+            let edit = rewritten(alloc, fault, &found, rule.rewrite)?;
+            if edit.is_some() && (is_kin || is_plain(rule)) {
+                return Ok(edit);
             }
             is_first = false;
         }

@@ -152,10 +152,10 @@ fn are_allowed(words: &[&str], operators: &[&str]) -> bool {
         .all(|word| !is_operator(word) || operators.contains(word))
 }
 
-/// Whether a number is among some words.
-fn has_number(words: &[&str]) -> bool {
+/// Whether a number is among some words that isn't one of those that are allowed.
+fn has_number(words: &[&str], allowed: &[&str]) -> bool {
     words.iter().any(|word| match word.as_bytes().first() {
-        Some(letter) => letter.is_ascii_digit(),
+        Some(letter) => letter.is_ascii_digit() && !allowed.contains(word),
         None => false,
     })
 }
@@ -177,7 +177,7 @@ pub fn keeps_operators(
     let new = further(alloc, &behind, &before)?;
     Ok(
         are_allowed(&gone, drops)
-            && !has_number(&gone)
+            && !has_number(&gone, drops)
             && are_allowed(&new, adds)
             && rearranges(&before, &behind, &gone, &new),
     )

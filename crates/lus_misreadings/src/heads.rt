@@ -17,9 +17,9 @@ fn declared_from(fault: &Fault<'_>, from: usize, name: &str) -> Option<usize> {
     None
 }
 
-/// Whether a name is declared from a place on with a type.
-fn is_typed_from(fault: &Fault<'_>, from: usize, name: &str, of: &str) -> bool {
-    let Some(place) = declared_from(fault, from, name) else {
+/// Whether a variable of this name is declared with a type.
+fn is_typed(fault: &Fault<'_>, name: &str, of: &str) -> bool {
+    let Some(place) = declared_from(fault, 0, name) else {
         return false;
     };
     match fault.find(place, &[":"]) {
@@ -35,7 +35,12 @@ pub fn is_variable(fault: &Fault<'_>, name: &str) -> bool {
 
 /// Whether one is that has the type `bool`.
 pub fn is_bool(fault: &Fault<'_>, name: &str) -> bool {
-    is_typed_from(fault, 0, name, "bool")
+    is_typed(fault, name, "bool")
+}
+
+/// Whether one is that has the type `int`.
+pub fn is_int(fault: &Fault<'_>, name: &str) -> bool {
+    is_typed(fault, name, "int")
 }
 
 /// Whether a name has an equation by itself.
@@ -51,12 +56,25 @@ fn is_defined(fault: &Fault<'_>, name: &str) -> bool {
     false
 }
 
-/// Whether an output or a local of this name is declared that has the type `int` and no equation.
-pub fn is_free_number(fault: &Fault<'_>, name: &str) -> bool {
+/// Whether an output or a local of this name is declared that has no equation.
+pub fn is_free(fault: &Fault<'_>, name: &str) -> bool {
     match fault.find(0, &["returns"]) {
-        Some(returns) => is_typed_from(fault, returns, name, "int") && !is_defined(fault, name),
+        Some(returns) => {
+            declared_from(fault, returns, name).is_some() && !is_defined(fault, name)
+        }
         None => false,
     }
+}
+
+/// The place of the value that the head gives a variable behind its type, as in `x: int last = 5`.
+pub fn first_value(fault: &Fault<'_>, name: &str) -> Option<usize> {
+    let colon = fault.find(declared_from(fault, 0, name)?, &[":"])?;
+    let last = colon.saturating_add(2);
+    let is_word = is_any(fault.text(last), &["last"]);
+    let sign = last.saturating_add(usize::from(is_word));
+    let value = sign.saturating_add(1);
+    let is_single = is_any(fault.text(value.saturating_add(1)), &[";", ")"]);
+    (is_any(fault.text(sign), &["="]) && is_single).then_some(value)
 }
 
 /// Whether the outputs are one, from the place behind its colon on.

@@ -17,9 +17,28 @@ static OTHERS: [&str; 7] = ["->", "=>", "and", "or", "xor", "fby", "when"];
 /// What stands before an operand, and behind none.
 static OPENERS: [&str; 5] = ["not", "pre", "if", "then", "else"];
 
+/// What stands in other languages before a condition that callers have to keep, or that a node keeps.
+static CLAIMS: [&str; 10] = [
+    "assume",
+    "guarantee",
+    "require",
+    "requires",
+    "ensure",
+    "ensures",
+    "check",
+    "prove",
+    "property",
+    "invariant",
+];
+
 /// Whether a text is one of some.
 pub fn is_any(text: &str, texts: &[&str]) -> bool {
     texts.contains(&text)
+}
+
+/// Whether a text stands before a condition in other languages.
+pub fn is_claim(text: &str) -> bool {
+    is_any(text, &CLAIMS)
 }
 
 /// Whether a text is a comparison.

@@ -1,11 +1,13 @@
 //! What other languages have built in, as Lustre writes it.
 
+use crate::calling::call_of;
 use crate::given::Given;
-use lus_faults::{Edit, expressions_in, extent_of};
-use lus_syntax::{Equation, Expr, Name, Node, Part};
+use lus_faults::{Edit, extent_of};
+use lus_syntax::{Expr, Name, Node, Part};
 use std::alloc::AllocError;
 
-/// What is said of a function that other languages have, and how a call of it is written: a digit in it stands for an argument.
+/// What is said of a function that other languages have, and how a call of it is written, where that is known: a digit in it stands for an
+/// argument.
 pub fn built(text: &str) -> Option<(&'static str, &'static str)> {
     match text {
         "abs" => Some((
@@ -19,6 +21,30 @@ pub fn built(text: &str) -> Option<(&'static str, &'static str)> {
         "min" => Some((
             "It is not built in: write `if a < b then a else b`, or declare a node of this name.",
             "if $1 < $2 then $1 else $2",
+        )),
+        "rising" | "rising_edge" | "redge" | "edge" => Some((
+            "It is not built in: write `a and not (false -> pre a)`, or declare a node of this name.",
+            "$1 and not (false -> pre $1)",
+        )),
+        "falling" | "falling_edge" | "fedge" => Some((
+            "It is not built in: write `not a and (false -> pre a)`, or declare a node of this name.",
+            "not $1 and (false -> pre $1)",
+        )),
+        "delay" => Some((
+            "It is not built in: write `0 fby a`, with a first value of the type of `a`.",
+            "",
+        )),
+        "clamp" | "limit" | "saturate" => Some((
+            "It is not built in: write `if a < low then low else if a > high then high else a`, or declare a node of this name.",
+            "",
+        )),
+        "count" | "counter" => Some((
+            "It is not built in: write `n = 0 -> if c then pre n + 1 else pre n;`, or declare a node of this name.",
+            "",
+        )),
+        "sum" | "integral" => Some((
+            "It is not built in: write `s = (0 -> pre s) + a;`, or declare a node of this name.",
+            "",
         )),
         _ => None,
     }
@@ -58,25 +84,22 @@ fn count_in(written: &str) -> usize {
     if written.contains("$2") { 2 } else { 1 }
 }
 
-/// The change of a call of a name at a place of its equation into what it computes; nothing where an argument is no name.
-fn call_edit(
-    given: Given<'_>,
-    equation: &Equation,
-    name: &Name,
-    call: &Expr,
-    parts: &[Part],
-) -> Result<Option<Edit>, AllocError> {
-    let Some((_, written)) = built(name.text.as_str()) else {
+/// The change of the call of a name in a node into what it computes; nothing where an argument is no name.
+pub fn built_edit(given: Given<'_>, node: &Node, name: &Name) -> Result<Option<Edit>, AllocError> {
+    let (Some((_, written)), Some(call)) = (
+        built(name.text.as_str()),
+        call_of(given.alloc, node, name)?,
+    ) else {
         return Ok(None);
     };
-    if parts.len() != count_in(written) {
+    if written.is_empty() || call.parts.len() != count_in(written) {
         return Ok(None);
     }
-    let Some(inner) = filled(given, written, parts)? else {
+    let Some(inner) = filled(given, written, call.parts)? else {
         return Ok(None);
     };
-    let span = extent_of(given.source, call);
-    let is_whole = extent_of(given.source, &equation.right).length == span.length;
+    let span = extent_of(given.source, call.expr);
+    let is_whole = extent_of(given.source, &call.equation.right).length == span.length;
     let text = if is_whole {
         inner
     } else {
@@ -87,18 +110,4 @@ fn call_edit(
         length: span.length,
         text,
     }))
-}
-
-/// The change of the call of a name in a node into what it computes.
-pub fn built_edit(given: Given<'_>, node: &Node, name: &Name) -> Result<Option<Edit>, AllocError> {
-    for equation in &node.equations {
-        for expr in &expressions_in(given.alloc, &equation.right)? {
-            if let Expr::Call(called, parts) = expr
-                && called.span.start.byte == name.span.start.byte
-            {
-                return call_edit(given, equation, name, expr, parts);
-            }
-        }
-    }
-    Ok(None)
 }

@@ -73,7 +73,7 @@ pub fn push_outside<'t>(
 /// The words of the language that could be meant where a name is used.
 fn words_of(purpose: Purpose) -> &'static [&'static str] {
     match purpose {
-        Purpose::Value => &TRUTHS,
+        Purpose::Value | Purpose::Constructor => &TRUTHS,
         Purpose::Type => &TYPES,
         _ => &[],
     }

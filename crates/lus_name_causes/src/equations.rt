@@ -1,10 +1,13 @@
 //! The left sides of equations.
 
+use crate::given::Given;
 use crate::repair::Repair;
 use crate::said::{Said, told_of};
 use crate::unknown::{Purpose, Use, unknown};
-use lus_faults::{Role, Sought, variable_named};
-use lus_syntax::{Name, Node, Tree};
+use lus_faults::{
+    Edit, Role, Sought, bytes_at, expressions_in, extent_of, start_of, variable_named,
+};
+use lus_syntax::{Equation, Expr, Name, Node, Prefix, Tree};
 use std::alloc::{AllocError, Global};
 
 /// The name on the left of an equation that stands at a place.
@@ -19,14 +22,14 @@ pub fn left_at(sought: Sought, node: &Node) -> Option<&Name> {
     None
 }
 
-/// The first name on the left of an equation that has the text of another.
-fn left_like<'t>(node: &'t Node, other: &Name) -> Option<&'t Name> {
+/// The first name on the left of an equation that has the text of another, and the equation.
+fn equation_like<'t>(node: &'t Node, other: &Name) -> Option<(&'t Name, &'t Equation)> {
     for equation in &node.equations {
         for name in &equation.left {
             if name.text.as_str() == other.text.as_str()
                 && name.span.start.byte != other.span.start.byte
             {
-                return Some(name);
+                return Some((name, equation));
             }
         }
     }
@@ -41,7 +44,7 @@ pub fn undeclared<'t>(node: &'t Node, found: Use<'t>) -> Option<Said<'t>> {
     ) {
         return None;
     }
-    let left = left_like(node, found.name)?;
+    let (left, _) = equation_like(node, found.name)?;
     let sentence = "`{}` has an equation but isn't declared";
     let note = "Declare it before `let`: `var {}: ..;`.";
     Some(Said {
@@ -51,24 +54,110 @@ pub fn undeclared<'t>(node: &'t Node, found: Use<'t>) -> Option<Said<'t>> {
     })
 }
 
+/// The equation with a name at its place on the left.
+fn equation_of<'t>(node: &'t Node, left: &Name) -> Option<&'t Equation> {
+    node.equations.iter().find(|equation| {
+        equation
+            .left
+            .iter()
+            .any(|name| name.span.start.byte == left.span.start.byte)
+    })
+}
+
+/// Whether an expression is a value that is written as such.
+fn is_value(expr: &Expr) -> bool {
+    matches!(expr, Expr::Number(_, _) | Expr::Truth(_, _) | Expr::Name(_))
+}
+
+/// Whether an expression has the value of a variable at the instant before.
+fn remembers(alloc: Global, expr: &Expr, text: &str) -> Result<bool, AllocError> {
+    for inner in &expressions_in(alloc, expr)? {
+        if let Expr::Unary(Prefix::Pre, _, operand) = *inner
+            && let Expr::Name(name) = &**operand
+            && name.text.as_str() == text
+        {
+            return Ok(true);
+        }
+    }
+    Ok(false)
+}
+
+/// The change of a source that makes one equation of two that follow one another: a first value, and what follows it.
+pub fn joining(
+    given: Given<'_>,
+    first: &Equation,
+    later: &Equation,
+) -> Result<Option<Edit>, AllocError> {
+    let end = extent_of(given.source, &first.right).end().byte;
+    let start = start_of(&later.right).byte;
+    let Some(name) = later.left.first() else {
+        return Ok(None);
+    };
+    let between = bytes_at(given.source, end, name.span.start.byte).unwrap_or("");
+    if between.trim() != ";" {
+        return Ok(None);
+    }
+    Ok(Some(Edit {
+        byte: end,
+        length: start.saturating_sub(end),
+        text: String::from_str(given.alloc, " -> ")?,
+    }))
+}
+
+/// What is said of a second equation of a variable, by what the two are: a first value and what follows it, or results of a call.
+fn twice<'t>(
+    alloc: Global,
+    node: &'t Node,
+    left: &'t Name,
+) -> Result<Option<Said<'t>>, AllocError> {
+    let (Some((name, first)), Some(second)) = (equation_like(node, left), equation_of(node, left))
+    else {
+        return Ok(None);
+    };
+    let said = Said {
+        beside: Some((name.span, "`{}` has an equation here too")),
+        ..told_of(
+            left,
+            "`{}` has two equations",
+            "A variable has exactly one equation, which holds at every instant. Combine the two with `if`.",
+        )
+    };
+    if first.left.len() > 1 || second.left.len() > 1 {
+        let note =
+            "A variable has exactly one equation. A result of a call that isn't meant gets a local of its own, as `_{}`.";
+        return Ok(Some(Said { note, ..said }));
+    }
+    if is_value(&first.right) && remembers(alloc, &second.right, left.text.as_str())? {
+        let note =
+            "An equation holds at every instant. The first value stands before `->`, as in `{} = 0 -> pre {} + 1;`.";
+        let repair = Some(Repair::First(first, second));
+        return Ok(Some(Said {
+            note,
+            repair,
+            ..said
+        }));
+    }
+    Ok(Some(said))
+}
+
 /// What is said of an equation for an input, or of a second one for a variable.
-fn needless<'t>(node: &'t Node, left: &'t Name) -> Option<Said<'t>> {
-    let variable = variable_named(node, left.text.as_str())?;
+fn needless<'t>(
+    alloc: Global,
+    node: &'t Node,
+    left: &'t Name,
+) -> Result<Option<Said<'t>>, AllocError> {
+    let Some(variable) = variable_named(node, left.text.as_str()) else {
+        return Ok(None);
+    };
     if variable.role == Role::Input {
         let sentence = "`{}` is an input and cannot have an equation";
         let note = "An input gets its value from the caller. Equations define outputs and locals.";
-        return Some(Said {
+        return Ok(Some(Said {
             beside: Some((variable.name.span, "`{}` is declared as an input")),
             ..told_of(left, sentence, note)
-        });
+        }));
     }
-    let first = left_like(node, left)?;
-    let note =
-        "A variable has exactly one equation, which holds at every instant. Combine the two with `if`.";
-    Some(Said {
-        beside: Some((first.span, "`{}` has an equation here too")),
-        ..told_of(left, "`{}` has two equations", note)
-    })
+    twice(alloc, node, left)
 }
 
 /// What is said of a name on the left of an equation.
@@ -78,7 +167,7 @@ pub fn wrong_left<'t>(
     node: &'t Node,
     left: &'t Name,
 ) -> Result<Option<Said<'t>>, AllocError> {
-    if let Some(found) = needless(node, left) {
+    if let Some(found) = needless(alloc, node, left)? {
         return Ok(Some(found));
     }
     let used = Use {

@@ -2,6 +2,7 @@
 #![tactic(auto)]
 
 mod built;
+mod calling;
 mod cause;
 mod clocks;
 mod declared;

@@ -1,13 +1,15 @@
 //! Changes of the text that mend a fault of names.
 
 use crate::built::built_edit;
+use crate::calling::{arguments_edit, structure_edit};
 use crate::clocks::{note_on_constructor, variables_of};
 use crate::declared::push_variables;
 use crate::declaring::{declaration_of, declaring};
+use crate::equations::joining;
 use crate::given::Given;
 use crate::respelling::{Slip, respelt, slips_beside};
 use lus_faults::{Edit, Finding};
-use lus_syntax::{Name, Node, TypeDeclaration};
+use lus_syntax::{Equation, Fields, Name, Node, TypeDeclaration};
 use std::alloc::{AllocError, Global};
 
 /// A change of the text, in a node.
@@ -21,6 +23,12 @@ pub enum Repair<'t> {
     Declaration(&'t Node, &'t Name),
     /// The names that are meant in the place of all misspelt ones of an equation.
     Respelling(&'t Node),
+    /// A structure with these fields, in the place of a call.
+    Structure(&'t Node, &'t [Fields]),
+    /// The arguments of a call in the order of its inputs.
+    Arguments(&'t Node),
+    /// A first value before `->` and what follows it in one equation, in the place of two.
+    First(&'t Equation, &'t Equation),
 }
 
 /// The note on several misspelt names.
@@ -122,5 +130,10 @@ pub fn with_repair<'t>(
         }
         Repair::Declaration(node, left) => with_declaration(given, finding, node, left),
         Repair::Respelling(node) => with_slips(given, finding, name, node),
+        Repair::Structure(node, groups) => {
+            Ok(finding.with_edit(structure_edit(given, node, name, groups)?))
+        }
+        Repair::Arguments(node) => Ok(finding.with_edit(arguments_edit(given, node, name)?)),
+        Repair::First(first, later) => Ok(finding.with_edit(joining(given, first, later)?)),
     }
 }

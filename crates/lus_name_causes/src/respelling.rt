@@ -4,7 +4,7 @@ use crate::given::Given;
 use crate::unknown::{Purpose, meant_by};
 use lus_faults::{Edit, bytes_at, expressions_in, variable_named};
 use lus_plain_types::enumeration_of;
-use lus_syntax::{Equation, Expr, Name, Node, Tree};
+use lus_syntax::{Equation, Expr, Label, Lead, Name, Node, Part, Tree};
 use std::alloc::AllocError;
 
 /// A misspelt name, and the one that is meant.
@@ -68,7 +68,24 @@ fn push_slip<'t>(
     }
 }
 
-/// The misspelt names of an equation, in the order of the text: variables, values, and nodes.
+/// Adds the misspelt labels of branches.
+fn push_labels<'t>(
+    given: Given<'t>,
+    node: &'t Node,
+    slips: &mut Vec<Slip<'t>>,
+    parts: &'t [Part],
+) -> Result<(), AllocError> {
+    for part in parts {
+        if let Lead::Branch(_, label) = &part.lead
+            && let Label::Constructor(name) = &**label
+        {
+            push_slip(given, node, slips, name, Purpose::Constructor)?;
+        }
+    }
+    Ok(())
+}
+
+/// The misspelt names of an equation, in the order of the text: variables, values, nodes, and labels.
 fn slips_in<'t>(
     given: Given<'t>,
     node: &'t Node,
@@ -82,9 +99,11 @@ fn slips_in<'t>(
         match expr {
             Expr::Name(name) => push_slip(given, node, &mut slips, name, Purpose::Value)?,
             Expr::Call(name, _) => push_slip(given, node, &mut slips, name, Purpose::Node)?,
+            Expr::Merge(_, _, parts) => push_labels(given, node, &mut slips, parts)?,
             _ => {}
         }
     }
+    slips.sort_by_key(|slip| slip.name.span.start.byte)?;
     Ok(slips)
 }
 

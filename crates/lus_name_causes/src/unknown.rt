@@ -1,6 +1,7 @@
 //! A name that nothing declares.
 
 use crate::built::built;
+use crate::calling::{called_structure, named_argument};
 use crate::clocks::constructed;
 use crate::declared::candidates;
 use crate::repair::Repair;
@@ -183,6 +184,7 @@ fn known_elsewhere<'t>(tree: &'t Tree, node: Option<&'t Node>, found: Use<'t>) -
         });
     }
     qualifier(tree, found)
+        .or(called_structure(tree, node, found))
         .or(called_variable(node, found))
         .or(constructed(tree, node, found))
 }
@@ -208,6 +210,9 @@ pub fn unknown<'t>(
     found: Use<'t>,
 ) -> Result<Option<Said<'t>>, AllocError> {
     if let Some(said) = known_elsewhere(tree, node, found) {
+        return Ok(Some(said));
+    }
+    if let Some(said) = named_argument(alloc, tree, node, found)? {
         return Ok(Some(said));
     }
     let said = told_of(found.name, found.purpose.sentence(), note_on(found));

@@ -18,12 +18,22 @@ pub struct Given<'c, 't> {
     pub flags: &'c Flags<'t>,
 }
 
-/// Whether parentheses stand right before and behind a span.
-fn is_enclosed(source: &str, span: Span) -> bool {
-    let bytes = source.as_bytes();
-    let front = bytes.get(..span.start.byte).unwrap_or(&[]);
-    let behind = bytes.get(span.end().byte).copied();
-    front.last().copied() == Some(b'(') && behind == Some(b')')
+/// Whether a span is all that stands in its parentheses or between their commas, or on the right of an equation.
+fn is_alone(given: Given<'_, '_>, span: Span) -> bool {
+    let source = given.source;
+    let front = bytes_at(source, 0, span.start.byte)
+        .unwrap_or("")
+        .trim_end();
+    let behind = bytes_at(source, span.end().byte, source.len())
+        .unwrap_or("")
+        .trim_start();
+    let is_part = (front.ends_with("(") || front.ends_with(","))
+        && (behind.starts_with(")") || behind.starts_with(","));
+    is_part
+        || given.flags.node.equations.iter().any(|equation| is_same(
+            extent_of(source, &equation.right),
+            span,
+        ))
 }
 
 /// Appends how a `pre` at a span is written with a first value.
@@ -34,7 +44,7 @@ fn push_written(
     span: Span,
 ) -> Result<(), AllocError> {
     let text = slice_of(given.source, span);
-    if is_enclosed(given.source, span) {
+    if is_alone(given, span) {
         write!(written, "{first} -> {text}")
     } else {
         write!(written, "({first} -> {text})")
@@ -164,6 +174,18 @@ fn add_step<'t>(
     Ok(None)
 }
 
+/// The note on a way, which may go through a branch, and on a first value in the change that is told.
+fn note_on(is_computed: bool, is_given: bool) -> &'static str {
+    match (is_computed, is_given) {
+        (true, true) =>
+            "Both branches of an `if` are computed at every instant, the first one included. Choose the first value: the one here is a placeholder.",
+        (true, false) =>
+            "Both branches of an `if` are computed at every instant, the first one included.",
+        (false, true) => "Choose the first value: the one here is a placeholder.",
+        (false, false) => "",
+    }
+}
+
 /// Adds the way from an expression to the `pre` without a first value, and how that would be written with one.
 pub fn add_way<'t>(
     given: Given<'_, 't>,
@@ -182,9 +204,11 @@ pub fn add_way<'t>(
         is_computed = is_computed || origin.is_computed;
         current = add_step(given, expr, origin.expr, finding)?;
     }
-    if is_computed {
-        let note =
-            "Both branches of an `if` are computed at every instant, the first one included.";
+    let note = note_on(
+        is_computed,
+        finding.note.is_none() && finding.edit.is_some(),
+    );
+    if !note.is_empty() {
         finding.note = Some(String::from_str(given.alloc, note)?);
     }
     Ok(())

@@ -88,6 +88,43 @@ fn replacing(
     }))
 }
 
+/// Whether a span is all that stands in its parentheses, or between their commas.
+fn is_alone(source: &str, span: Span) -> bool {
+    let before = bytes_at(source, 0, span.start.byte)
+        .unwrap_or("")
+        .trim_end();
+    let behind = bytes_at(source, span.end().byte, source.len())
+        .unwrap_or("")
+        .trim_start();
+    (before.ends_with("(") || before.ends_with(","))
+        && (behind.starts_with(")") || behind.starts_with(","))
+}
+
+/// The change of a source by which the value of the instant before is used at a place in that of a variable's own. Nothing where a first
+/// value isn't known.
+pub fn delayed_at(
+    alloc: Global,
+    source: &str,
+    tree: &Tree,
+    node: &Node,
+    text: &str,
+    span: Span,
+) -> Result<Option<Edit>, AllocError> {
+    let Some(first) = value_of_variable(tree, node, text) else {
+        return Ok(None);
+    };
+    let text = if is_alone(source, span) {
+        format!(in alloc; "{first} -> pre {text}")?
+    } else {
+        format!(in alloc; "({first} -> pre {text})")?
+    };
+    Ok(Some(Edit {
+        byte: span.start.byte,
+        length: span.length,
+        text,
+    }))
+}
+
 /// The change of a source by which the equation of a variable uses the value of the instant before in place of its own: behind `->` by
 /// `pre`, else with a first value. Nothing where there is no such use, or a first value isn't known.
 pub fn delayed(

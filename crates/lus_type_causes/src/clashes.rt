@@ -1,13 +1,72 @@
 //! Parts that have another type than is wanted.
 
 use crate::given::Given;
-use crate::kinds::{constructors, field_at, fields, has_name, part_named, variable_at};
-use crate::operators::{advice, ends_at, main_span, operand, pair, sign};
+use crate::kinds::{
+    constructors, field_at, fields, group_at, has_name, is_written_alike, part_named, variable_at,
+};
+use crate::operators::{advice, ends_at, main_span, operand, pair, sign, sign_between};
+use crate::repair::Repair;
 use crate::said::{Said, Words};
-use lus_faults::start_of;
+use lus_faults::{extent_of, start_of, variable_named};
 use lus_program::Kind;
 use lus_source::{Member, Whole};
-use lus_syntax::{Expr, Name, Part, Place, Span};
+use lus_syntax::{Expr, Name, Node, Part, Place, Span, TypeName};
+
+/// Whether an expression is plainly of a type: a value that is written, or a variable that is declared so.
+fn is_of<'t>(given: Given<'t>, expr: &Expr, type_name: &TypeName) -> bool {
+    match (expr, type_name) {
+        (Expr::Number(_, _), TypeName::Int(_)) | (Expr::Truth(_, _), TypeName::Bool(_)) => true,
+        (Expr::Name(name), _) => match given.node {
+            Some(node) => match variable_named(node, &name.text) {
+                Some(variable) => is_written_alike(&variable.group.type_name, type_name),
+                None => false,
+            },
+            None => false,
+        },
+        _ => false,
+    }
+}
+
+/// The number of another argument of a call with which that of a number can be exchanged: each is plainly of the type of the other's input.
+fn exchanged(given: Given<'_>, called: &Node, parts: &[Part], number: usize) -> Option<usize> {
+    let own = &parts.get(number)?.value;
+    let own_type = &group_at(&called.inputs, number)?.type_name;
+    for (other, part) in parts.iter().enumerate() {
+        if other > number
+            && let Some(group) = group_at(&called.inputs, other)
+            && is_of(given, own, &group.type_name)
+            && is_of(given, &part.value, own_type)
+        {
+            return Some(other);
+        }
+    }
+    None
+}
+
+/// What is said of an argument, where it can be exchanged with another one.
+fn with_exchange<'t>(
+    given: Given<'t>,
+    said: Said<'t>,
+    called: &Node,
+    parts: &'t [Part],
+    number: usize,
+) -> Option<Said<'t>> {
+    let other = exchanged(given, called, parts, number)?;
+    let (first, second) = (&parts.get(number)?.value, &parts.get(other)?.value);
+    let place = other.saturating_add(1);
+    Some(Said {
+        advice: "exchanged",
+        words: Words {
+            place,
+            ..said.words
+        },
+        repair: Some(Repair::Exchange(
+            extent_of(given.source, first),
+            extent_of(given.source, second),
+        )),
+        ..said
+    })
+}
 
 /// An argument of another type than its input.
 fn argument<'t>(
@@ -17,7 +76,8 @@ fn argument<'t>(
     wanted: Member,
     found: Kind,
 ) -> Option<Said<'t>> {
-    let input = variable_at(&given.called(name)?.inputs, wanted.number)?;
+    let called = given.called(name)?;
+    let input = variable_at(&called.inputs, wanted.number)?;
     let value = &parts.get(wanted.number)?.value;
     let words = Words {
         owner: &name.text,
@@ -30,7 +90,8 @@ fn argument<'t>(
         declared: Some(input),
         ..Said::of("argument", name.span, words)
     };
-    Some(said.suspecting(value, wanted.kind))
+    let exchanged = with_exchange(given, said, called, parts, wanted.number);
+    Some(exchanged.unwrap_or(said.suspecting(value, wanted.kind)))
 }
 
 /// A field's value of another type than the field.
@@ -99,7 +160,25 @@ fn wrong_operand<'t>(
         first: Some((operand, found)),
         ..Said::of("operand", main_span(given.source, expr), words)
     };
-    Some(said.suspecting(operand, wanted.kind))
+    if sign(expr) == "=>" && found == Kind::Int {
+        return Some(Said {
+            advice: "compared",
+            repair: sign_between(given.source, expr, ">="),
+            ..said
+        });
+    }
+    match operand {
+        Expr::Name(name) if wanted.kind == Kind::Bool && found == Kind::Int => Some(Said {
+            advice: "nonzero",
+            words: Words {
+                first: &name.text,
+                ..words
+            },
+            repair: Some(Repair::Compared(name.span, matches!(expr, Expr::Unary(_, _, _)))),
+            ..said.suspecting(operand, wanted.kind)
+        }),
+        _ => Some(said.suspecting(operand, wanted.kind)),
+    }
 }
 
 /// What is said, with a note where an operand is a constructor beside a value of another enumeration.

@@ -2,11 +2,12 @@
 
 use crate::given::Given;
 use crate::kinds::{constructors, variable_at};
+use crate::repair::Repair;
 use crate::said::{Said, Words};
 use lus_faults::{extent_of, start_of, variable_named};
 use lus_program::Kind;
 use lus_source::Member;
-use lus_syntax::{Equation, Literal, Name, Node, Span};
+use lus_syntax::{Equation, Expr, Literal, Name, Node, Span};
 
 /// Where a constant's value stands.
 fn literal_span(value: &Literal) -> Span {
@@ -76,6 +77,16 @@ fn equation_at<'t>(given: Given<'t>) -> Option<&'t Equation> {
         .find(|equation| given.is_at(start_of(&equation.right)))
 }
 
+/// The condition of an `if` that gives 1 where it holds, and else 0.
+fn numbered(expr: &Expr) -> Option<&Expr> {
+    match expr {
+        Expr::If(_, condition, left, right)
+            if matches!(**left, Expr::Number(1, _)) && matches!(**right, Expr::Number(0, _)) =>
+            Some(condition),
+        _ => None,
+    }
+}
+
 /// A right side that has another type than its variable.
 pub fn value<'t>(given: Given<'t>, wanted: Member, found: Kind) -> Option<Said<'t>> {
     let equation = equation_at(given)?;
@@ -85,20 +96,42 @@ pub fn value<'t>(given: Given<'t>, wanted: Member, found: Kind) -> Option<Said<'
         ..given.words(wanted.kind, found)
     };
     let span = extent_of(given.source, &equation.right);
-    Some(Said {
+    let said = Said {
         declared: Some(variable_named(given.node?, &left.text)?.name),
         suspect: Some((left, found)),
         ..Said::of("value", span, words)
-    })
+    };
+    match numbered(&equation.right) {
+        Some(condition) if wanted.kind == Kind::Bool => Some(Said {
+            advice: "truth",
+            repair: Some(Repair::Part(span, extent_of(given.source, condition))),
+            suspect: None,
+            ..said
+        }),
+        _ => Some(said),
+    }
 }
 
 /// A right side that gives another count of values than there are variables.
 pub fn values<'t>(given: Given<'t>, number: usize, count: usize) -> Option<Said<'t>> {
-    let span = extent_of(given.source, &equation_at(given)?.right);
+    let equation = equation_at(given)?;
+    let span = extent_of(given.source, &equation.right);
     let words = Words {
         number,
         count,
         ..given.words(Kind::Bool, Kind::Bool)
     };
-    Some(Said::of("values", span, words))
+    let Expr::Call(name, _) = &equation.right else {
+        return Some(Said::of("values", span, words));
+    };
+    let called = given.called(name)?;
+    let words = Words {
+        owner: &name.text,
+        ..words
+    };
+    Some(Said {
+        declared: Some(&called.name),
+        taking: equation.left.first(),
+        ..Said::of("values", span, words)
+    })
 }

@@ -51,12 +51,16 @@ impl<'t> Given<'t> {
         }
     }
 
-    /// The node that a call names.
-    pub fn called(self, name: &Name) -> Option<&'t Node> {
-        let text = name.text.as_str();
+    /// The node of a name.
+    pub fn node_named(self, text: &str) -> Option<&'t Node> {
         self.tree
             .nodes
             .iter()
             .find(|node| node.name.text.as_str() == text)
+    }
+
+    /// The node that a call names.
+    pub fn called(self, name: &Name) -> Option<&'t Node> {
+        self.node_named(name.text.as_str())
     }
 }

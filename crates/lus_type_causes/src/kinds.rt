@@ -1,7 +1,10 @@
 //! Types as a source declares them.
 
+use lus_faults::declared_type;
 use lus_program::Kind;
-use lus_syntax::{Definition, Fields, Group, Label, Lead, Name, Part, Tree, TypeDeclaration};
+use lus_syntax::{
+    Definition, Fields, Group, Label, Lead, Name, Part, Tree, TypeDeclaration, TypeName,
+};
 
 /// The declaration of a type; none of `bool` and `int`.
 pub fn declaration(tree: &Tree, kind: Kind) -> Option<&TypeDeclaration> {
@@ -62,6 +65,43 @@ pub fn variable_at(groups: &[Group], number: usize) -> Option<&Name> {
             return Some(name);
         }
         left = left.saturating_sub(group.names.len());
+    }
+    None
+}
+
+/// The group of the variable of a number.
+pub fn group_at(groups: &[Group], number: usize) -> Option<&Group> {
+    let mut left = number;
+    for group in groups {
+        if left < group.names.len() {
+            return Some(group);
+        }
+        left = left.saturating_sub(group.names.len());
+    }
+    None
+}
+
+/// Whether two types are written alike.
+pub fn is_written_alike(one: &TypeName, other: &TypeName) -> bool {
+    match (one, other) {
+        (TypeName::Bool(_), TypeName::Bool(_)) | (TypeName::Int(_), TypeName::Int(_)) => true,
+        (TypeName::Declared(one), TypeName::Declared(other)) => {
+            one.text.as_str() == other.text.as_str()
+        }
+        _ => false,
+    }
+}
+
+/// The field of a structure that is a structure itself with a field of this name, if one is.
+pub fn field_through<'t>(tree: &'t Tree, groups: &'t [Fields], text: &str) -> Option<&'t Name> {
+    for group in groups {
+        if let TypeName::Declared(name) = &group.type_name
+            && let Some((_, declaration)) = declared_type(tree, &name.text)
+            && let Definition::Structure(inner) = &declaration.definition
+            && inner.iter().any(|group| has_name(&group.names, text))
+        {
+            return group.names.first();
+        }
     }
     None
 }

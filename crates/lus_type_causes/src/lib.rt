@@ -8,6 +8,7 @@ mod given;
 mod kinds;
 mod members;
 mod operators;
+mod reaching;
 mod redeclaring;
 mod repair;
 mod rows;

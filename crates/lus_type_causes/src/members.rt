@@ -2,8 +2,10 @@
 
 use crate::given::Given;
 use crate::kinds::{
-    constructors, declaration, field_at, fields, label_at, label_text, value, variable_at,
+    constructors, declaration, field_at, field_through, fields, label_at, label_text, value,
+    variable_at,
 };
+use crate::reaching::Through;
 use crate::repair::{Lacking, Repair};
 use crate::said::{Said, Words};
 use lus_faults::{extent_of, label_span};
@@ -71,6 +73,22 @@ pub fn unknown_field<'t>(given: Given<'t>, kind: Kind, name: &'t Name) -> Option
         ..given.words(kind, kind)
     };
     let groups = fields(given.tree, kind);
+    if let Some(outer) = field_through(given.tree, groups, &name.text) {
+        let words = Words {
+            first: &outer.text,
+            ..words
+        };
+        return Some(Said {
+            declared: Some(outer),
+            advice: "through",
+            repair: Some(Repair::Through(Through {
+                name,
+                outer,
+                groups,
+            })),
+            ..Said::of("nameless", name.span, words)
+        });
+    }
     if !groups.is_empty() {
         return Some(Said {
             declared: Some(&declaration(given.tree, kind)?.name),

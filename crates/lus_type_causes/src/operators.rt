@@ -1,7 +1,8 @@
 //! Operators and their operands.
 
 use crate::kinds::constructors;
-use lus_faults::{extent_of, start_of};
+use crate::repair::Repair;
+use lus_faults::{bytes_at, extent_of, start_of};
 use lus_program::Kind;
 use lus_syntax::{Expr, Infix, ListOperator, Place, Prefix, Span, Tree};
 
@@ -52,6 +53,19 @@ pub fn ends_at(expr: &Expr, place: Place) -> bool {
         _ => return false,
     };
     start_of(last).byte == place.byte
+}
+
+/// The change that writes another sign for the one of two bytes that stands between the operands of an operator, if it stands alone there.
+pub fn sign_between(source: &str, expr: &Expr, written: &'static str) -> Option<Repair<'static>> {
+    let (left, right) = pair(expr)?;
+    let from = extent_of(source, left).end().byte;
+    let between = bytes_at(source, from, start_of(right).byte)?;
+    let front = between.len().saturating_sub(between.trim_start().len());
+    (between.trim() == sign(expr)).then_some(Repair::Sign(
+        from.saturating_add(front),
+        sign(expr).len(),
+        written,
+    ))
 }
 
 /// What is marked of an operator: its word, or all of it where it stands between its operands.

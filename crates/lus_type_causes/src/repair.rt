@@ -1,8 +1,10 @@
 //! Changes of the text that mend a fault of types, and the fields that there are.
 
+use crate::given::Given;
 use crate::kinds::part_named;
-use lus_faults::{Edit, nearest};
-use lus_syntax::{Fields, Name, Part};
+use crate::reaching::{Through, through_edit};
+use lus_faults::{Edit, bytes_at, nearest, slice_of};
+use lus_syntax::{Fields, Group, Name, Part, Span};
 use std::alloc::{AllocError, Global};
 
 /// How many fields of a structure are told.
@@ -15,6 +17,16 @@ pub enum Repair<'t> {
     Field(&'t Name, &'t [Fields]),
     /// The branches that a `merge` lacks, at its end.
     Branches(Lacking<'t>),
+    /// A sign in the place of so many bytes from one on.
+    Sign(usize, usize, &'static str),
+    /// A field before one of its own.
+    Through(Through<'t>),
+    /// Two arguments, each in the place of the other.
+    Exchange(Span, Span),
+    /// A part of an expression in its place.
+    Part(Span, Span),
+    /// A comparison with zero behind a number, with parentheses where an operator stands right before it.
+    Compared(Span, bool),
 }
 
 /// The branches of a `merge`, which ends before a byte; the constructors of its variable, none of a `bool`; and the value of the
@@ -106,10 +118,74 @@ fn branches_edit(alloc: Global, lacking: Lacking<'_>) -> Result<Edit, AllocError
     })
 }
 
+/// The change of a source that exchanges two parts of it, the first of which stands before the second.
+fn exchanging(alloc: Global, source: &str, first: Span, second: Span) -> Result<Edit, AllocError> {
+    let (one, other) = (slice_of(source, first), slice_of(source, second));
+    let between = bytes_at(source, first.end().byte, second.start.byte).unwrap_or("");
+    let byte = first.start.byte;
+    Ok(Edit {
+        byte,
+        length: second.end().byte.saturating_sub(byte),
+        text: format!(in alloc; "{other}{between}{one}")?,
+    })
+}
+
+/// The names of the variables of groups.
+fn variables_of(alloc: Global, groups: &[Group]) -> Result<Vec<&str>, AllocError> {
+    let mut names = Vec::new(alloc);
+    for group in groups {
+        for name in &group.names {
+            names.push(name.text.as_str())?;
+        }
+    }
+    Ok(names)
+}
+
+/// The note on a call of which one variable is to take all outputs: how each is taken.
+pub fn note_on_outputs(
+    alloc: Global,
+    owner: &str,
+    left: &Name,
+    outputs: &[Group],
+) -> Result<String, AllocError> {
+    let names = variables_of(alloc, outputs)?;
+    let first = left.text.as_str();
+    let mut note = format!(in alloc; "`{owner}` has the outputs ")?;
+    push_names(&mut note, &names)?;
+    write!(note, ". Each needs a variable, as in `({first}")?;
+    for name in names.get(1..).unwrap_or(&[]) {
+        write!(note, ", {name}")?;
+    }
+    write!(note, ") = {owner}(..);`.")?;
+    Ok(note)
+}
+
 /// The change of the text, if there is one.
-pub fn edit_of(alloc: Global, repair: Repair<'_>) -> Result<Option<Edit>, AllocError> {
+pub fn edit_of(given: Given<'_>, repair: Repair<'_>) -> Result<Option<Edit>, AllocError> {
+    let (alloc, source) = (given.alloc, given.source);
     match repair {
         Repair::Field(name, groups) => field_edit(alloc, name, groups),
         Repair::Branches(lacking) => Ok(Some(branches_edit(alloc, lacking)?)),
+        Repair::Sign(byte, length, sign) => Ok(Some(Edit {
+            byte,
+            length,
+            text: String::from_str(alloc, sign)?,
+        })),
+        Repair::Through(through) => through_edit(given, through),
+        Repair::Part(whole, part) => Ok(Some(Edit {
+            byte: whole.start.byte,
+            length: whole.length,
+            text: String::from_str(alloc, slice_of(source, part))?,
+        })),
+        Repair::Compared(span, is_enclosed) => {
+            let (open, close) = if is_enclosed { ("(", ")") } else { ("", "") };
+            let number = slice_of(source, span);
+            Ok(Some(Edit {
+                byte: span.start.byte,
+                length: span.length,
+                text: format!(in alloc; "{open}{number} <> 0{close}")?,
+            }))
+        }
+        Repair::Exchange(first, second) => { Ok(Some(exchanging(alloc, source, first, second)?)) }
     }
 }
