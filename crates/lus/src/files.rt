@@ -17,12 +17,20 @@ pub fn opens<R: Files>(rt: &R, name: &str) -> bool {
     }
 }
 
-/// Whether there is no file of a name, or it is a plain one that can't be opened.
-fn is_unopened<R: Files>(rt: &R, name: &str) -> bool {
-    match fs::metadata(rt, name) {
-        Ok(metadata) => metadata.is_file() && fs::open(rt, name).is_err(),
-        Err(error) => error.kind() != ErrorKind::OutOfMemory,
+/// What keeps a file of a name from being read: there is none, it is a folder, or a plain one that can't be opened.
+fn fault_of<R: Files>(rt: &R, name: &str) -> Option<(&'static str, &'static str)> {
+    let metadata = match fs::metadata(rt, name) {
+        Ok(metadata) => metadata,
+        Err(error) if error.kind() == ErrorKind::OutOfMemory => return None,
+        Err(_) => return Some(("there is no file `", "`\n")),
+    };
+    if metadata.is_dir() {
+        return Some(("`", "` is a folder\n"));
     }
+    if metadata.is_file() && fs::open(rt, name).is_err() {
+        return Some(("the file `", "` can't be opened\n"));
+    }
+    None
 }
 
 /// The words that name files: those told by their place, but for a node's name, the second one of `lus_live`, of `lus_audit --many` and of
@@ -46,9 +54,8 @@ pub fn names_none(tool: &str) -> bool {
     !matches!(tool, "lus_format" | "lus_lsp")
 }
 
-fn tell_unopened<F: Sink>(tool: &str, name: &str, faults: &mut F) {
-    let end = "`, or it can't be opened\n";
-    for text in [tool, ": there is no file `", name, end] {
+fn tell_unread<F: Sink>(tool: &str, before: &str, name: &str, behind: &str, faults: &mut F) {
+    for text in [tool, ": ", before, name, behind] {
         let _ = write_all(faults, text.as_bytes());
     }
 }
@@ -66,8 +73,8 @@ pub fn name_unopened<R: Files, F: Sink>(
         return;
     };
     for name in &files {
-        if is_unopened(rt, name) {
-            tell_unopened(tool, name, faults);
+        if let Some((before, behind)) = fault_of(rt, name) {
+            tell_unread(tool, before, name, behind, faults);
             return;
         }
     }

@@ -15,7 +15,7 @@ mod wrong_line;
 use crate::files::{name_unopened, names_none};
 use crate::instance::{draw_instance, names_instance};
 use crate::journal::JournalFile;
-use crate::mistaken::{explain_order, explain_signal, explain_words};
+use crate::mistaken::{explain_rejected, explain_signal, explain_words};
 use crate::tools::arguments_of;
 use crate::usage::{introduce, was_introduced};
 use crate::wrong_line::{Told, explain_line, journal_line};
@@ -174,8 +174,8 @@ fn explain_fault<F: Sink>(
 ) {
     if fault == "error words" && !was_introduced(tool, words) {
         explain_words(rt.alloc(), tool, words, faults);
-    } else if fault.starts_with("error E") {
-        explain_order(rt, rt.alloc(), tool, words, faults);
+    } else if fault.starts_with("error E") && tool != "lus_format" {
+        explain_rejected(rt, rt.alloc(), tool, words, faults);
     } else if let Some(place) = fault.strip_prefix("error signal ") {
         explain_signal(rt.alloc(), tool, words, place, faults);
     } else if let Some(number) = journal_line(fault.as_bytes()) {

@@ -1,7 +1,7 @@
 //! Which argument of a tool for people is wrong, and what is near it.
 
 use crate::files::{named_files, opens};
-use crate::tools::{arguments_of, value_behind};
+use crate::tools::{apart_in, arguments_of, numbers_in, value_behind};
 use crate::wrong_line::read_line;
 use clap::{Arg, ArgAction, Command};
 use lus_cli::{bare, with_flag, with_optional, with_required, with_value};
@@ -70,6 +70,38 @@ fn tell_mistake<F: Sink>(alloc: Global, tool: &str, line: &str, faults: &mut F) 
     }
 }
 
+/// Whether a flag or an option stands among words.
+fn is_given(words: &[String], argument: &str) -> bool {
+    for word in words {
+        let name = word.split('=').next().unwrap_or("");
+        if name == argument {
+            return true;
+        }
+    }
+    false
+}
+
+/// What is wrong with words each of which is an argument of a tool: two of them exclude each other, or a number is none.
+fn misuse(alloc: Global, tool: &str, words: &[String]) -> Result<String, AllocError> {
+    for (one, other) in apart_in(tool) {
+        if is_given(words, one) && is_given(words, other) {
+            return format!(in alloc; "`{one}` and `{other}` do not go together");
+        }
+    }
+    for (option, least) in numbers_in(tool) {
+        if let Some(value) = value_behind(words, option) {
+            let is_taken = value.parse::<u64>().is_ok_and(|number| number >= *least);
+            if !is_taken {
+                return format!(in alloc;
+                    "`{option}` takes a whole number from {least} on, not `{value}`"
+                );
+            }
+        }
+    }
+    let together = "these arguments do not go together, or have another value than they take";
+    String::from_str(alloc, together)
+}
+
 /// Says which of the words behind a tool's name is wrong and what is near it, and where its arguments are told.
 pub fn explain_words<F: Sink>(alloc: Global, tool: &str, words: &[String], faults: &mut F) {
     let Some(arguments) = arguments_of(tool) else {
@@ -79,8 +111,9 @@ pub fn explain_words<F: Sink>(alloc: Global, tool: &str, words: &[String], fault
         return;
     };
     if mistake.is_empty() {
-        let together = "these arguments do not go together, or have another value than they take";
-        tell_line(alloc, tool, together, faults);
+        if let Ok(misuse) = misuse(alloc, tool, words) {
+            tell_line(alloc, tool, misuse.as_str(), faults);
+        }
     }
     // (the usage that follows is clap's own, which says less than that of `--help`)
     for line in mistake.lines() {
@@ -120,8 +153,8 @@ pub fn explain_signal<F: Sink>(
     }
 }
 
-/// Says where the file of a program is that of a journal.
-pub fn explain_order<R: Files, F: Sink>(
+/// Says of a rejected program which command tells why, or that its file is a journal.
+pub fn explain_rejected<R: Files, F: Sink>(
     rt: &R,
     alloc: Global,
     tool: &str,
@@ -138,11 +171,12 @@ pub fn explain_order<R: Files, F: Sink>(
     if !opens(rt, name) || read_line(&Disk(rt), name, 1, &mut line).is_none() {
         return;
     }
-    if line.starts_with(b"instance ") {
-        if let Ok(text) = format!(in alloc;
-            "{name} is a journal, and the program's file comes first"
-        ) {
-            tell_line(alloc, tool, text.as_str(), faults);
-        }
+    let text = if line.starts_with(b"instance ") {
+        format!(in alloc; "{name} is a journal, and the program's file comes first")
+    } else {
+        format!(in alloc; "`lus_explain {name}` says why it is rejected")
+    };
+    if let Ok(text) = text {
+        tell_line(alloc, tool, text.as_str(), faults);
     }
 }

@@ -21,6 +21,34 @@ pub fn arguments_of(tool: &str) -> Option<&'static str> {
     }
 }
 
+/// Arguments of a tool for people, of each of which pairs one at most is taken.
+pub fn apart_in(tool: &str) -> &'static [(&'static str, &'static str)] {
+    match tool {
+        "lus_format" => &[("--check", "--write")],
+        "lus_draw" => &[
+            ("--html", "--waves"),
+            ("--html", "--csv"),
+            ("--html", "--vcd"),
+            ("--waves", "--csv"),
+            ("--waves", "--vcd"),
+            ("--csv", "--vcd"),
+            ("--all", "--signals"),
+        ],
+        "lus_live" => &[("--json", "--csv"), ("--csv", "--many")],
+        "lus_test" => &[("--write", "--random")],
+        _ => &[],
+    }
+}
+
+/// The options of a tool for people that take a whole number, each with the least that it takes.
+pub fn numbers_in(tool: &str) -> &'static [(&'static str, u64)] {
+    match tool {
+        "lus_draw" => &[("--from", 1), ("--to", 1)],
+        "lus_test" => &[("--random", 1), ("--steps", 1), ("--seed", 0)],
+        _ => &[],
+    }
+}
+
 /// Whether a word is an option of a tool for people, which the word behind it is the value of.
 pub fn takes_word(tool: &str, word: &str) -> bool {
     for argument in arguments_of(tool).unwrap_or("").split(' ') {

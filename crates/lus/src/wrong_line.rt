@@ -132,8 +132,17 @@ fn wrong_entry(alloc: Global, entry: &str, entries: u64) -> Result<String, Alloc
 
 /// What is wrong with a line of this number in a journal, behind so many entries.
 fn wrong_line(alloc: Global, number: u64, line: &str, entries: u64) -> Result<String, AllocError> {
-    if number == 1 || line.starts_with("instance ") {
-        return String::from_str(alloc, "no `instance NAME NODE` of a node of the program");
+    if line.starts_with("instance ") {
+        let head = line.trim_end();
+        return format!(in alloc;
+            "`{head}` names no node of the program, or begins a second journal of a run"
+        );
+    }
+    if number == 1 {
+        return String::from_str(
+            alloc,
+            "no `instance NAME NODE`, with which a journal begins",
+        );
     }
     let Some(count) = line.strip_prefix("entries ") else {
         return wrong_entry(alloc, line, entries);
