@@ -21,8 +21,8 @@ use Rattle.lus_instructions.specs.declared.class.Class.{Class}
 use Rattle.lus_classes.specs.View.{call_of, class_of}
 use Rattle.lus_cells.specs.Cells.{AreStateCells, HaveLeaves, expression_cells, operand_cells, kind_leaves, leaves_given, node_cells}
 use Rattle.lus_places.specs.Few.{AreFew, KeepTo}
-use Rattle.lus_turns.specs.Turned.{HaveOneLeft}
-use Rattle.lus_code.specs.Made.{AreSmall, AreTurned, NodesKeepTo}
+use Rattle.lus_turns.specs.Turned.{AreTurned, HaveOneLeft}
+use Rattle.lus_code.specs.Made.{AreSmall, NodesKeepTo}
 
 -- ---- the source
 

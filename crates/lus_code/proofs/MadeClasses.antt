@@ -17,8 +17,8 @@ use Rattle.lus_instructions.specs.declared.class.Call.{Call}
 use Rattle.lus_instructions.specs.declared.class.Class.{Class}
 use Rattle.lus_classes.specs.View.{class_of, classes_of, clock_from}
 use Rattle.lus_places.specs.Shaped.{AreNested, CanAllBePlaced, CallsClass}
-use Rattle.lus_turns.specs.Turned.{CallsNode, IsTurned}
-use Rattle.lus_code.specs.Made.{AreFirstTurned, AreTurned, HasSource}
+use Rattle.lus_turns.specs.Turned.{AreFirstTurned, AreTurned, CallsNode, IsTurned}
+use Rattle.lus_code.specs.Made.{HasSource}
 
 -- no class belongs to no node
 nothing_belongs : (p : Program) → IsClassOf p empty_node empty_class

@@ -1,5 +1,5 @@
 -- The classes of a program in normal form, as they are made.
-use Rattle.std.specs.Prelude.{◌≡◌, ℕ, ◌+◌, ◌≤◌, List, length, sum_by, Some, slice_get}
+use Rattle.std.specs.Prelude.{ℕ, ◌+◌, ◌≤◌, List, sum_by}
 use Rattle.lus_values.specs.Lists.{item}
 use Rattle.lus_syntax.specs.Limits.{most_cells}
 use Rattle.lus_program.specs.Programs.{Program, node_at}
@@ -7,16 +7,7 @@ use Rattle.lus_streams.specs.Clocks.{Part}
 use Rattle.lus_streams.specs.Equations.{sites}
 use Rattle.lus_normal_form.specs.NormalNodes.{IsNormalOf, node_firsts, node_memories}
 use Rattle.lus_simulation.specs.Checked.{IsChecked}
-use Rattle.lus_instructions.specs.declared.class.Class.{Class}
-use Rattle.lus_turns.specs.Turned.{HaveOneLeft, IsTurned}
-
--- a class for each of the first n nodes, with its steps in their turns
-pub record AreFirstTurned (p : Program) (n : ℕ) (classes : List Class) : Type 0 where
-  pub size : length classes ≡ n
-  pub each : (g : ℕ) (c : Class) → slice_get classes g ≡ Some c → IsTurned p (node_at p g) c
-
-abbrev pub AreTurned : Program → List Class → Type 0
-AreTurned p classes = AreFirstTurned p (length p.nodes) classes
+use Rattle.lus_turns.specs.Turned.{HaveOneLeft}
 
 -- p is a normal form of a checked program
 pub record HasSource (p : Program) : Type 0 where

@@ -14,7 +14,8 @@ ghost use Rattle.lus_framed_code.specs.Made.{HaveParts};
 ghost use Rattle.lus_framed_code.specs.Alike.{MakeInstants};
 ghost use Rattle.lus_keeping.specs.Keeping.{HaveFrames};
 ghost use Rattle.lus_keeping.specs.Plans.{ArePlans};
-ghost use Rattle.lus_code.specs.Made.{AreSmall, AreTurned, HasSource, NodesKeepTo};
+ghost use Rattle.lus_turns.specs.Turned.{AreTurned};
+ghost use Rattle.lus_code.specs.Made.{AreSmall, HasSource, NodesKeepTo};
 
 use lus_framed_code::{frame_classes, likes_answer, unfold_classes};
 use lus_frames::Class as Framed;

@@ -7,7 +7,7 @@ use Rattle.lus_instructions.specs.declared.class.Call.{Call}
 use Rattle.lus_instructions.specs.declared.class.Class.{Class}
 use Rattle.lus_instructions.specs.declared.class.Extent.{Extent}
 use Rattle.lus_classes.specs.Places.{HasRoom, InOrder, IsPart}
-use Rattle.lus_classes.specs.Turns.{AreMaking, AreReady, GivesSome, HasTurns, IsReady}
+use Rattle.lus_classes.specs.Turns.{AreMaking, AreOnce, AreReady, GivesSome, HasTurns, IsReady}
 use Rattle.lus_classes.specs.View.{class_of, steps_of}
 use Rattle.lus_places.specs.Placing.{no_room, together, placed_calls, parts_end, room_with, EndsWithin, IsPlaced, KeepSteps}
 use Rattle.lus_places.specs.Shaped.{CanAllBePlaced, CallsClass, CanBePlaced}
@@ -32,6 +32,7 @@ turns_kept rooms c c' room is turns =
           (subst (λ n. InTurn (class_of c) (steps_of c.steps.items) (λ x. nat_lt x n)) (sym inputs) turns.turns));
       given = subst (λ ss. Each (GivesSome (length c'.calls.items)) ss) (sym steps) (subst (λ n. Each (GivesSome n) c.steps.items) (sym long) turns.given);
       every = λ n lt. subst (λ ss. AreMaking n ss) (sym steps) (turns.every n (subst (λ l. n < l) long lt));
+      once = subst AreOnce (sym steps) turns.once;
     }
 
 module _ (old new : List Class) (rooms : List Extent) (done : List ℕ) (is : IsUnderway old new rooms done) (shaped : CanAllBePlaced old) where

@@ -59,6 +59,6 @@ loop-place-preserved c =
     let parts_pushed : c.push-in-loop-place.new.self.items ≡ c.loop-place.parts.items ++ parts ∷ [] = search rules in
     record {
       turned = rw classes_pushed (more_turned (program_seen p) place c.loop-place.classes.items class was.turned turned);
-      parts = rw classes_pushed (rw parts_pushed (more_parts c.loop-place.classes.items c.loop-place.parts.items class parts was.many was.parts c.in_ok-made.ensures.parts));
+      parts = rw classes_pushed (rw parts_pushed (more_parts c.loop-place.classes.items c.loop-place.parts.items class parts was.many was.parts c.in_ok-made.ensures.parts.make));
       many = search rules;
     }

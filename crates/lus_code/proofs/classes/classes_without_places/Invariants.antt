@@ -1,7 +1,7 @@
 use Rattle.std.proofs.Common.{◌≡◌, length}
 use Rattle.lus_program.specs.View.{program_seen}
 use Rattle.lus_framed_code.specs.Made.{HaveParts}
-use Rattle.lus_code.specs.Made.{AreFirstTurned}
+use Rattle.lus_turns.specs.Turned.{AreFirstTurned}
 use Rattle.lus_code.proofs.classes.classes_without_places.Given as goal
 
 abbrev pub invariant-loop-place : goal.invariant-loop-place

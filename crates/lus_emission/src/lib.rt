@@ -1,0 +1,12 @@
+//! The code of classes as orders: a class after those that it calls.
+#![tactic(auto)]
+
+mod calls;
+mod class;
+mod classes;
+mod instructions;
+mod parts;
+mod stores;
+mod targets;
+
+pub use classes::emit_classes;

@@ -1,0 +1,4 @@
+mod Found
+mod Emitted
+mod Passing
+mod Steps
