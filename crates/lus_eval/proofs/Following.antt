@@ -57,22 +57,22 @@ module _ (c : ProgramCode) (correct : IsCorrect c) (f : ℕ) (k : Class) (found 
 
 module _ (c : ProgramCode) (correct : IsCorrect c) (before after : Seen) (k : Class) (found : slice_get c.classes before.node ≡ Some k) (i : Row) (depth : ℕ) (deep : suc depth ≡ depth_of (program_of c)) where
   pub step_follows : (outputs : Row) → IsTrue (has_shape (program_of c) before.node i) → IsTrue (has_presence (program_of c) before.node i)
-      → TakesStep c.classes depth (node_at (program_of c) before.node).outputs before i (Ok outputs) after
-      → StepsTo (program_of c) (plain_classes c) (instance_state c.classes (depth_of (program_of c)) before) (instance_state c.classes (depth_of (program_of c)) after) before.node i outputs
+      → TakesStep c.classes c.emitted depth (node_at (program_of c) before.node).outputs before i (Ok outputs) after
+      → StepsTo (program_of c) (plain_classes c) (instance_state c.classes c.emitted (depth_of (program_of c)) before) (instance_state c.classes c.emitted (depth_of (program_of c)) after) before.node i outputs
   step_follows outputs shape presence takes =
       let f = before.node in
       let g = node_at (program_of c) f in
       let a = takes k found in
-      let goes = correct.gives (instance_state c.classes (suc depth) before) (instance_state c.classes (suc depth) after) f i a.0 shape presence a.1 in
+      let goes = correct.gives (instance_state c.classes c.emitted (suc depth) before) (instance_state c.classes c.emitted (suc depth) after) f i a.0 shape presence a.1 in
       let same : outputs_of g a.0 ≡ outputs = ap (λ n. take g.outputs (drop n a.0)) (sym (same_inputs c correct f k found)) ∙ sym a.2 in
-      let shown = subst (λ o. StepsTo (program_of c) (plain_classes c) (instance_state c.classes (suc depth) before) (instance_state c.classes (suc depth) after) f i o) same goes in
-      subst (λ d. StepsTo (program_of c) (plain_classes c) (instance_state c.classes d before) (instance_state c.classes d after) f i outputs) deep shown
+      let shown = subst (λ o. StepsTo (program_of c) (plain_classes c) (instance_state c.classes c.emitted (suc depth) before) (instance_state c.classes c.emitted (suc depth) after) f i o) same goes in
+      subst (λ d. StepsTo (program_of c) (plain_classes c) (instance_state c.classes c.emitted d before) (instance_state c.classes c.emitted d after) f i outputs) deep shown
 
-  pub fault_follows : TakesStep c.classes depth (node_at (program_of c) before.node).outputs before i (Err running.Fault) after
-      → EndsStreams (program_of c) (plain_classes c) (instance_state c.classes (depth_of (program_of c)) before) before.node i
+  pub fault_follows : TakesStep c.classes c.emitted depth (node_at (program_of c) before.node).outputs before i (Err running.Fault) after
+      → EndsStreams (program_of c) (plain_classes c) (instance_state c.classes c.emitted (depth_of (program_of c)) before) before.node i
   fault_follows takes =
-      subst (λ d. EndsStreams (program_of c) (plain_classes c) (instance_state c.classes d before) before.node i) deep
-      (correct.faults.only (instance_state c.classes (suc depth) before) before.node i (takes k found))
+      subst (λ d. EndsStreams (program_of c) (plain_classes c) (instance_state c.classes c.emitted d before) before.node i) deep
+      (correct.faults.only (instance_state c.classes c.emitted (suc depth) before) before.node i (takes k found))
 
 true_below : (n : ℕ) (t : ℕ → Bool) → ((x : ℕ) → x < n → t x ≡ true) → all_below n t ≡ true
 true_below zero t h = refl

@@ -9,6 +9,7 @@ ghost use Rattle.lus_eval.specs.Objects.{IsFault, IsReset, IsObjectOf, MakesStep
 
 use crate::copying::row_twice;
 use crate::error::StepError;
+use crate::running::running;
 use crate::shape::row_fits;
 use crate::stepping::step_instance;
 use lus_code::Code;
@@ -25,7 +26,6 @@ pub struct Object {
 }
 
 impl Model for Object {
-    ghost use Rattle.std.specs.Prelude.{map, length};
     ghost use Rattle.std.specs.Coded.{codes};
     ghost use Rattle.lus_values.specs.Coded.{coded_value};
     ghost use Rattle.lus_eval.specs.Objects.{Kept, kept_by, IsEven};
@@ -45,7 +45,7 @@ impl Object {
         requires { node.0 < length (program_of code.now).nodes }
         ensures { IfOk result (λ o. ObjectLived code.now node.0 o []) }
     {
-        let instance = Instance::fresh(alloc, code.classes(), code.framed(), node.0)?;
+        let instance = Instance::fresh(alloc, &running(code), node.0)?;
         Ok(Object { instance })
     }
 
@@ -53,7 +53,7 @@ impl Object {
     pub fn shaped(&self, code: &Code) -> bool
         ensures { IsTrue result ↔ IsObjectOf code.now self.now }
     {
-        self.instance.is_shaped(code.classes(), code.framed())
+        self.instance.is_shaped(&running(code))
     }
 
     /// Whether there are as many inputs as the node has, each a value of its type or absent.

@@ -49,6 +49,7 @@ returns c =
       belong = classes_belong p classes turned;
       size = turned.size;
       ready = turned_can_be_emitted p classes turned small;
+      passing = turned_pass_given p classes turned;
       many = made.size ∙ ap (λ (cs : List Class). length cs) seen;
       framed = made.framed;
       code = subst (λ (cs : List Class). HaveCode cs emitted) seen (made.code (subst PassGiven (sym seen) (turned_pass_given p classes turned)));

@@ -73,6 +73,7 @@ correct c =
       size = made.size ∙ c.program.ensures.size;
       belong = (program_seen q, code);
       ready = made.ready;
+      passing = made.passing;
       nested = nested;
       many = made.many;
       framed = made.framed;
