@@ -36,11 +36,7 @@ pub struct Coded {
 }
 
 /// The class of each node of a program in normal form, whose variables have these orders, and the parts that make its steps.
-fn parted_classes(
-    alloc: Global,
-    program: &Program,
-    orders: &[Vec<u32>],
-) -> Result<Parted, Memory>
+fn parted_classes(alloc: Global, program: &Program, orders: &[Vec<u32>]) -> Result<Parted, Memory>
     requires ready { AreReady (program_seen program.now) }
     requires orders { AreOrders (program_seen program.now) (map (λ order. order.items) orders.now) }
     ensures turned { IfOk result (λ made. AreTurned (program_seen program.now) made.classes.items) }

@@ -117,7 +117,7 @@ reset_starts c correct o o' h shaped =
     let d = depth_of (program_of c) in
     let cells : (seen o').cells ≡ replicate shaped.code.cells nil = h.cells ∙ all_one nil (seen o).cells ∙ ap (λ n. replicate n nil) shaped.cells in
     let start = (λ j. state_in (plain_classes c) c.emitted d (h.node j) (cells j))
-        ∙ fresh_state c.classes c.emitted (runs_correct c correct) d o.node shaped.code shaped.coded (correct.nested o.node) in
+    ∙ fresh_state c.classes c.emitted (runs_correct c correct) d o.node shaped.code shaped.coded (correct.nested o.node) in
     record {
       node = h.node;
       shaped = reset_shaped c (kept_by o) (kept_by o') (reset_kept o o' h) shaped;

@@ -132,11 +132,16 @@ fn called_nodes_may_stand_behind_their_callers(rt: HostRuntime) -> Result<(), Fa
     Ok(())
 }
 
+/// Whether an order is no instruction that isn't located.
+fn is_located(order: &Order) -> bool {
+    !matches!(order, Order::Other(_))
+}
+
 /// Whether all instructions of code are located.
 fn are_located(emitted: &[Emitted]) -> bool {
     emitted
         .iter()
-        .all(|class| class.code.iter().all(|order| !matches!(order, Order::Other(_))))
+        .all(|class| class.code.iter().all(is_located))
 }
 
 #[test]

@@ -18,7 +18,7 @@ returns c =
     let correct = c.running.ensures.correct in
     let o = seen c.in_ok-instance.instance in
     let start = subst (λ (l : List Class). IsFresh l code.emitted f o) c.running.ensures.classes
-        (subst (λ (l : List Emitted). IsFresh on.classes.now l f o) c.running.ensures.emitted c.in_ok-instance.ensures.start) in
+    (subst (λ (l : List Emitted). IsFresh on.classes.now l f o) c.running.ensures.emitted c.in_ok-instance.ensures.start) in
     record {
       node = c.in_ok-instance.ensures.node;
       shaped = shaped_in_code code on.classes.now on.emitted.now c.running.ensures.classes c.running.ensures.emitted c.in_ok-instance.instance correct c.in_ok-instance.ensures.shaped;
