@@ -8,13 +8,12 @@ ghost use Rattle.lus_code.specs.Correct.{IsCorrect};
 ghost use Rattle.lus_eval.specs.Objects.{IsFault, IsReset, IsObjectOf, MakesStep, ObjectLived};
 
 use crate::copying::row_twice;
-use crate::error::StepError;
 use crate::running::running;
 use crate::shape::row_fits;
 use crate::stepping::step_instance;
 use lus_code::Code;
 use lus_program::NodeId;
-use lus_running::{Instance, fits_presence};
+use lus_running::{Instance, StepError, fits_presence};
 use lus_values::{Memory, Row};
 use std::alloc::Global;
 use std::marker::Model;

@@ -6,10 +6,9 @@ ghost use Rattle.lus_code.specs.Codes.{program_of};
 ghost use Rattle.lus_running.specs.Instances.{LeavesBehind, seen};
 ghost use Rattle.lus_eval.specs.Objects.{IsEven, IsFault, IsObjectOf, MakesStep, kept_by};
 
-use crate::error::StepError;
 use crate::running::running;
 use lus_code::Code;
-use lus_running::Instance;
+use lus_running::{Instance, StepError};
 use lus_values::Row;
 
 /// One more instant: its outputs, with the cells of the last instant left behind as those for the next one, or a fault where the
@@ -31,6 +30,5 @@ pub(crate) fn step_instance(
 {
     let on = running(code);
     let node = &code.program().nodes[instance.node as usize];
-    let outputs = instance.step(&on, inputs, node.outputs as usize)?;
-    Ok(outputs)
+    instance.step(&on, inputs, node.outputs as usize)
 }
