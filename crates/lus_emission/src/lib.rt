@@ -5,8 +5,10 @@ mod calls;
 mod class;
 mod classes;
 mod instructions;
+mod laws;
 mod parts;
 mod stores;
 mod targets;
 
 pub use classes::emit_classes;
+pub use laws::{code_makes_class_steps, code_nests};
