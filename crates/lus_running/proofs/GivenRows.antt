@@ -1,22 +1,20 @@
 -- Entries stand on the whole clocks of their variables where they stand on the newest tests of these.
 use Rattle.std.proofs.Common.{◌≡◌, ◌∙◌, ℕ, zero, suc, true, List, [], ◌∷◌, map, length, Option, None, Some, is_some, slice_get, refl, sym, ap, ap₂, subst}
-use Rattle.std.proofs.lemmas.Bool.{and_parts}
 use Rattle.lus_values.specs.Lists.{item}
 use Rattle.lus_values.specs.Values.{Row}
 use Rattle.lus_values.specs.declared.test.Test.{Test}
 use Rattle.lus_streams.specs.Streams.{where_on}
 use Rattle.lus_classes.specs.Steps.{atom_in, is_on_row, passed}
-use Rattle.lus_instructions.specs.Executed.{holds_in}
 use Rattle.lus_classes.specs.Played.{GivenOnClocks}
-use Rattle.lus_classes.proofs.OnClocks.{has_entry}
 use Rattle.lus_instructions.specs.declared.class.Argument.{Argument}
 use Rattle.lus_instructions.specs.declared.class.Call.{Call}
 use Rattle.lus_instructions.specs.declared.class.Class.{Class}
 use Rattle.lus_classes.specs.Looks.{newest, short_argument, short_of}
 use Rattle.lus_classes.specs.Passing.{PassGiven}
-use Rattle.lus_classes.specs.View.{argument_of, atom_of, chain_in, clock_from}
+use Rattle.lus_classes.specs.View.{argument_of, atom_of, clock_from}
 use Rattle.lus_classes.proofs.ShortTurns.{short_clock_at}
-use Rattle.lus_running.proofs.OneLook.{PresentOnClock, both_true, one_look}
+use Rattle.lus_emission.proofs.OnClocks.{clock_looks, newest_is}
+use Rattle.lus_running.proofs.OneLook.{PresentOnClock, one_look}
 
 -- from whole clocks to newest tests
 pub given_short : (c : Class) (r : Row) → PresentOnClock c.tests.items r → GivenOnClocks (short_of c) r
@@ -24,31 +22,11 @@ given_short c r present x some =
     let ts = c.tests.items in
     ap (λ k. is_on_row k r) (short_clock_at c x) ∙ one_look ts r present (item None ts x) ∙ present x some
 
-module _ (c : Class) (r : Row) (given : GivenOnClocks (short_of c) r) where
-  abbrev ts : List (Option Test)
-  ts = c.tests.items
-
-  chain_on : (n x : ℕ) → is_some (item None r x) ≡ true → is_on_row (chain_in n ts x) r ≡ true
-  chain_on zero x some = refl
-  chain_on (suc n) x some = go (chain_on n) (item None ts x) (sym (ap (λ k. is_on_row k r) (short_clock_at c x)) ∙ given x some)
-    where
-      go : ((y : ℕ) → is_some (item None r y) ≡ true → is_on_row (chain_in n ts y) r ≡ true) → (o : Option Test) → is_on_row (newest o) r ≡ true
-          → is_on_row (elim o [ None ↦ [] | Some t ↦ t ∷ chain_in n ts t.variable ]) r ≡ true
-      go older None on = refl
-      go older (Some t) on =
-          let holds = (and_parts (holds_in t r) true on).0 in
-          both_true (holds_in t r) (is_on_row (chain_in n ts t.variable) r) holds (older t.variable (has_entry t.constructor (item None r t.variable) holds))
-
-  -- and back
-  pub given_whole : PresentOnClock ts r
-  given_whole x some = go (item None ts x) (sym (ap (λ k. is_on_row k r) (short_clock_at c x)) ∙ given x some)
-    where
-      go : (o : Option Test) → is_on_row (newest o) r ≡ true → is_on_row (clock_from ts o) r ≡ true
-      go None on = refl
-      go (Some t) on =
-          let holds = (and_parts (holds_in t r) true on).0 in
-          both_true (holds_in t r) (is_on_row (chain_in (length ts) ts t.variable) r) holds
-          (chain_on (length ts) t.variable (has_entry t.constructor (item None r t.variable) holds))
+-- and back
+pub given_whole : (c : Class) (r : Row) → GivenOnClocks (short_of c) r → PresentOnClock c.tests.items r
+given_whole c r given x some =
+    let t = item None c.tests.items x in
+    clock_looks c r given t ∙ sym (newest_is t r) ∙ sym (ap (λ k. is_on_row k r) (short_clock_at c x)) ∙ given x some
 
 -- what is passed by newest tests is what is passed by whole clocks
 module _ (ts : List (Option Test)) (r : Row) (present : PresentOnClock ts r) where

@@ -22,9 +22,9 @@ use Rattle.lus_running.specs.Fits.{FitsPresence}
 use Rattle.lus_running.specs.Instances.{Answers}
 use Rattle.lus_running.specs.Settings.{RunsClasses}
 use Rattle.lus_running.specs.Stopped.{error_of}
-use Rattle.lus_running.proofs.CodeSteps.{code_makes_class_steps}
+use Rattle.lus_emission.proofs.Steps.{code_makes_class_steps}
 use Rattle.lus_running.proofs.GivenRows.{given_short}
-use Rattle.lus_running.proofs.Placed.{short_found}
+use Rattle.lus_emission.proofs.Segments.{short_found}
 use Rattle.lus_running.proofs.ShortSteps.{fits_on_clocks, step_same}
 
 -- classes keep as many cells and first-flags, whether clocks are whole or cut to their newest tests

@@ -1,7 +1,8 @@
 use Rattle.std.proofs.Common.{◌≡◌, ◌∙◌, sym, ap, map, ◌<◌, ◌≤◌, ◌++◌, take, drop, length, slice_set, slice_index_or, add-one, arith}
 use Rattle.std.proofs.lemmas.List.{map-set, length-map, get_or-map}
 use Rattle.lus_instructions.specs.Followed.{cell_of}
-use Rattle.lus_running.proofs.TakenOver.{next_same, none_behind}
+use Rattle.lus_orders.proofs.Lists.{next_same}
+use Rattle.lus_running.proofs.Writing.{none_behind}
 use Rattle.lus_running.proofs.Cells.{cell_same}
 use Rattle.lus_running.proofs.copying.copy_cells.Goals as goal
 

@@ -3,7 +3,7 @@ use Rattle.std.proofs.lemmas.List.{map-set, length-map}
 use Rattle.std.specs.Option.{unwrap_or}
 use Rattle.lus_values.specs.Values.{nil}
 use Rattle.lus_instructions.specs.Followed.{cell_of}
-use Rattle.lus_running.proofs.SetBack.{next_back}
+use Rattle.lus_running.proofs.Writing.{next_back}
 use Rattle.lus_running.proofs.filling.empty_all.Goals as goal
 
 pub loop-place-preserved : goal.loop-place-preserved

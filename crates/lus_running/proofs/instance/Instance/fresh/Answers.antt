@@ -5,7 +5,8 @@ use Rattle.lus_orders.specs.declared.class.Class.{Class as Emitted}
 use Rattle.lus_orders.specs.Made.{state_in}
 use Rattle.lus_instructions.specs.Words.{entry_in}
 use Rattle.lus_running.specs.Instances.{IsNew, rows_seen}
-use Rattle.lus_running.proofs.Placed.{fresh_state, item_found}
+use Rattle.lus_running.proofs.Placed.{fresh_state}
+use Rattle.lus_emission.proofs.Underway.{found_within}
 use Rattle.lus_running.proofs.Seeing.{new_long}
 use Rattle.lus_running.proofs.instance.Instance.fresh.Goals as goal
 
@@ -33,7 +34,7 @@ returns-clause-shaped c =
     let f = c.index-on-node.result in
     let size = c.requires.code.size in
     let lt : g < length on.emitted.now = omega (arith, size, c.requires.within) in
-    let there = item_found on.classes.now g c.requires.within in
+    let there = found_within on.classes.now g c.requires.within in
     let coded : slice_get on.emitted.now g ≡ Some f = slice_get_read on.emitted.now (length on.emitted.now) g f refl lt c.index-on-node.is in
     let new : IsNew f (rows_seen entry_in g c.in_ok-words.words) =
     subst (λ (z : Emitted). IsNew z (rows_seen entry_in g c.in_ok-words.words)) (sym c.index-on-node.is) (c.in_ok-words.ensures g) in

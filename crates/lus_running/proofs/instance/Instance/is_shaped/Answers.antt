@@ -1,7 +1,7 @@
 use Rattle.std.proofs.Common.{rules, ◌≡◌, ◌∙◌, ◌<◌, ◌≤◌, sym, refl, length, slice_get, slice_index_or, Some, None}
 use Rattle.std.proofs.lemmas.Option.{slice_get_read, slice_get_past, none-some}
 use Rattle.lus_running.specs.Instances.{seen}
-use Rattle.lus_running.proofs.Placed.{item_found}
+use Rattle.lus_emission.proofs.Underway.{found_within}
 use Rattle.lus_running.proofs.Seeing.{long_of}
 use Rattle.lus_running.proofs.instance.Instance.is_shaped.Goals as goal
 
@@ -14,7 +14,7 @@ returns-in-Some-Some c =
     let within : g < length classes = search rules in
     let coding : g < length emitted = search rules in
     let there : f ≡ slice_index_or emitted g f = search rules in
-    let found = item_found classes g within in
+    let found = found_within classes g within in
     let coded : slice_get emitted g ≡ Some f = slice_get_read emitted (length emitted) g f refl coding there in (
       λ yes. record { class = found.0; code = f; found = found.1; coded = coded; long = (c.is_long.ensures g).0 yes },
       λ s. (c.is_long.ensures g).1 (long_of classes emitted (seen c.args.self.now) f coded s),
