@@ -1,5 +1,5 @@
 -- Entries stand on the whole clocks of their variables where they stand on the newest tests of these.
-use Rattle.std.proofs.Common.{◌≡◌, ◌∙◌, ℕ, zero, suc, true, List, [], ◌∷◌, map, length, Option, None, Some, is_some, slice_get, refl, sym, ap, ap₂, subst}
+use Rattle.std.proofs.Common.{◌≡◌, ◌∙◌, ℕ, true, List, [], ◌∷◌, map, Option, None, Some, slice_get, refl, sym, ap, ap₂, subst}
 use Rattle.lus_values.specs.Lists.{item}
 use Rattle.lus_values.specs.Values.{Row}
 use Rattle.lus_values.specs.declared.test.Test.{Test}
@@ -9,7 +9,7 @@ use Rattle.lus_classes.specs.Played.{GivenOnClocks}
 use Rattle.lus_instructions.specs.declared.class.Argument.{Argument}
 use Rattle.lus_instructions.specs.declared.class.Call.{Call}
 use Rattle.lus_instructions.specs.declared.class.Class.{Class}
-use Rattle.lus_classes.specs.Looks.{newest, short_argument, short_of}
+use Rattle.lus_classes.specs.Looks.{short_argument, short_of}
 use Rattle.lus_classes.specs.Passing.{PassGiven}
 use Rattle.lus_classes.specs.View.{argument_of, atom_of, clock_from}
 use Rattle.lus_classes.proofs.ShortTurns.{short_clock_at}

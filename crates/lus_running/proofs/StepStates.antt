@@ -1,5 +1,5 @@
 -- The step of an instance, from what the code of its class leaves.
-use Rattle.std.proofs.Common.{◌≡◌, ◌∙◌, ◌+◌, ◌≤◌, ℕ, zero, suc, List, [], ◌∷◌, map, length, take, drop, Option, Some, None, Result, Ok, Err, slice_get, refl, sym, ap, ap₂, arith}
+use Rattle.std.proofs.Common.{◌≡◌, ◌∙◌, ◌+◌, ◌≤◌, ℕ, zero, suc, List, [], ◌∷◌, length, take, Option, Some, Ok, Err, slice_get, refl, sym, ap, ap₂, arith}
 use Rattle.std.specs.Prelude.{option_map}
 use Rattle.std.proofs.lemmas.List.{length-map}
 use Rattle.lus_values.specs.Values.{Value, Row}
@@ -13,7 +13,7 @@ use Rattle.lus_instructions.specs.declared.class.Class.{Class}
 use Rattle.lus_orders.specs.declared.class.Call.{Call}
 use Rattle.lus_orders.specs.declared.class.Class.{Class as Emitted}
 use Rattle.lus_orders.specs.Classes.{begun, calls_of, follows_class, part}
-use Rattle.lus_orders.specs.Made.{StateOf, flags_in, read_of, state_in, states_with, width}
+use Rattle.lus_orders.specs.Made.{StateOf, flags_in, state_in, states_with, width}
 use Rattle.lus_orders.specs.Orders.{Board}
 use Rattle.lus_running.specs.declared.error.Failure.{Failure}
 use Rattle.lus_running.specs.declared.error.Failure.TheVariants as failures

@@ -1,5 +1,5 @@
 -- Rows that take over what an instant left, if it was made.
-use Rattle.std.proofs.Common.{◌≡◌, ◌∙◌, ℕ, Bool, true, false, List, length, map, Option, Result, Ok, Err, Vec, refl, sym, ap, ap₂, subst}
+use Rattle.std.proofs.Common.{◌≡◌, ◌∙◌, ℕ, Bool, true, false, List, length, map, Option, Result, Ok, Err, Vec, refl, sym, ap, subst}
 use Rattle.std.specs.Global.{Global}
 use Rattle.std.specs.Prelude.{is_ok}
 use Rattle.std.proofs.lemmas.List.{length-map}

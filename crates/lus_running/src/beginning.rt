@@ -22,11 +22,7 @@ fn first_at<T: Held>(alloc: Global, inputs: &[Option<Value>], place: usize) -> R
 }
 
 /// A row that begins with inputs, and is empty behind.
-pub fn begin<T: Held>(
-    alloc: Global,
-    inputs: &[Option<Value>],
-    own: &mut [T],
-) -> Result<(), Stop>
+pub fn begin<T: Held>(alloc: Global, inputs: &[Option<Value>], own: &mut [T]) -> Result<(), Stop>
     ensures { IfOk result (λ _. map T.entry own.new ≡ begun (length own.old) (map entry_of inputs.now)) }
 {
     for place in 0..own.len() {

@@ -75,12 +75,7 @@ impl Instance {
 
     /// One more instant: so many outputs, with the cells of the last instant left behind as those for the next one; or the
     /// instance as it was.
-    pub fn step(
-        &mut self,
-        on: &Running<'_>,
-        inputs: &Row,
-        outputs: usize,
-    ) -> Result<Row, StepError>
+    pub fn step(&mut self, on: &Running<'_>, inputs: &Row, outputs: usize) -> Result<Row, StepError>
         requires code { RunsClasses on.now.classes.now on.now.emitted.now }
         requires shaped { HasRowsOfClass on.now.classes.now on.now.emitted.now (seen self.old) }
         requires depth { WithinDepth (classes_of on.now.classes.now) (suc on.now.depth) self.old.node }

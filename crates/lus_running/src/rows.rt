@@ -74,12 +74,7 @@ impl<T: Held> Rows<T> {
 
     /// One more instant of a class: so many outputs, with the cells of the last instant left behind as those for the next one; or the
     /// rows keep what they kept.
-    pub fn step(
-        &mut self,
-        on: &Setting<'_>,
-        inputs: &Row,
-        outputs: usize,
-    ) -> Result<Row, Failure>
+    pub fn step(&mut self, on: &Setting<'_>, inputs: &Row, outputs: usize) -> Result<Row, Failure>
         requires { CanStep on.now inputs.now outputs (rows_seen T.entry 0 self.old) }
         ensures { MakesStep on.now inputs.now outputs (rows_seen T.entry 0 self.old) result (rows_seen T.entry 0 self.new) }
     {

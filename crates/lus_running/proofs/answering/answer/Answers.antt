@@ -1,4 +1,4 @@
-use Rattle.std.proofs.Common.{◌≡◌, ◌∙◌, length, map, sym, ap, arith}
+use Rattle.std.proofs.Common.{◌∙◌, length, map, sym, ap, arith}
 use Rattle.lus_values.specs.View.{entry_of}
 use Rattle.lus_orders.specs.Classes.{begun}
 use Rattle.lus_running.proofs.Telling.{answers_not, answers_with}

@@ -1,4 +1,4 @@
-use Rattle.std.proofs.Common.{rules, ◌≡◌, ◌∙◌, ◌+◌, ◌≤◌, suc, sym, ap, subst, get_or, length, slice_get, Some, Ok, Err, Result, refl, arith}
+use Rattle.std.proofs.Common.{rules, ◌≡◌, suc, sym, ap, subst, get_or, Err, Result, refl, arith}
 use Rattle.std.specs.Prelude.{OnErr}
 use Rattle.std.proofs.lemmas.Option.{slice_get_within}
 use Rattle.lus_values.specs.Values.{Row}
