@@ -2,14 +2,12 @@
 use Rattle.std.proofs.Common.{◌≡◌, ◌∙◌, List, sym, ap, subst, Some, Result, Ok, Err}
 use Rattle.std.specs.Prelude.{slice_get}
 use Rattle.std.specs.Result.{IfOk}
-use Rattle.lus_values.specs.Values.{Row}
 use Rattle.lus_program.specs.Programs.{Node, node_at}
 use Rattle.lus_instructions.specs.declared.class.Class.{Class}
 use Rattle.lus_orders.specs.declared.class.Class.{Class as Emitted}
 use Rattle.lus_code.specs.Codes.{program_of}
-use Rattle.lus_running.specs.declared.error.StepError.{StepError}
 use Rattle.lus_running.specs.Instances.{HasFormals, TakesStep, seen}
-use Rattle.lus_eval.specs.Objects.{MakesStep, kept_by}
+use Rattle.lus_eval.specs.Objects.{kept_by}
 use Rattle.lus_eval.proofs.Following.{has_formals, presence_told, step_follows, fault_follows}
 use Rattle.lus_eval.proofs.KeptRows.{instance_shaped, shaped_in_code, source_node}
 use Rattle.lus_eval.proofs.stepping.step_instance.Goals as goal

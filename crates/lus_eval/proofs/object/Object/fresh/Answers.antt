@@ -1,4 +1,4 @@
-use Rattle.std.proofs.Common.{◌≡◌, ◌<◌, List, length, sym, ap, subst, arith, []}
+use Rattle.std.proofs.Common.{List, sym, subst, []}
 use Rattle.lus_classes.specs.States.{State}
 use Rattle.lus_instructions.specs.declared.class.Class.{Class}
 use Rattle.lus_orders.specs.declared.class.Class.{Class as Emitted}
