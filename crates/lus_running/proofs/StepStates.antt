@@ -23,7 +23,6 @@ use Rattle.lus_running.specs.Instances.{Answers}
 use Rattle.lus_running.specs.Settings.{RunsClasses}
 use Rattle.lus_running.specs.Stopped.{error_of}
 use Rattle.lus_emission.proofs.Steps.{code_makes_class_steps}
-use Rattle.lus_running.proofs.GivenRows.{given_short}
 use Rattle.lus_emission.proofs.Segments.{short_found}
 use Rattle.lus_running.proofs.ShortSteps.{fits_on_clocks, step_same}
 
@@ -80,11 +79,11 @@ module _ (classes : List Class) (emitted : List Emitted) (runs : RunsClasses cla
 
     step_is : stepped ≡ option_map told left
     step_is =
-        let present = fits_on_clocks c i narrow fits in
+        let given = fits_on_clocks c i narrow fits in
         let wide : width short emitted g ≡ length c.tests.items = ap (λ (k : PlainClass). length k.clocks) (short_found classes g c found) ∙ length-map c.tests.items newest in
-        sym (step_same classes runs.can runs.passing (state_in whole emitted (suc d) g vs) g c i found narrow present)
+        sym (step_same classes runs.can runs.passing (state_in whole emitted (suc d) g vs) g c i found narrow given)
         ∙ ap (λ s. step short s g i) (state_same (suc d) g vs)
-        ∙ code_makes_class_steps classes emitted runs.size runs.code d g c f found coded within vs i long narrow (given_short c i present)
+        ∙ code_makes_class_steps classes emitted runs.size runs.code d g c f found coded within vs i long narrow given
         ∙ (λ j. option_map (λ (b : Board). (take (wide j) b.1, sym (state_same (suc d) g b.0) j)) left)
 
     pub answers_ok : (count : ℕ) (outputs : Row) (ws : List Value) → c.inputs + count ≤ length c.tests.items → AnswersTo left (length i) count (Ok outputs) ws

@@ -2,11 +2,14 @@
 
 use lus_instructions::Stop;
 use lus_values::Memory;
+use thiserror::Error;
 
 /// The instant has no values, or a growth was refused.
-#[derive(Clone, Copy, PartialEq, Eq, Debug)]
+#[derive(Clone, Copy, Debug, PartialEq, Eq, Error)]
 pub enum StepError {
+    #[error("the instant has no values")]
     Fault,
+    #[error("out of memory")]
     Memory,
 }
 
