@@ -1,5 +1,5 @@
 -- The step of an instance, from what the code of its class leaves.
-use Rattle.std.proofs.Common.{◌≡◌, ◌∙◌, ◌+◌, ◌≤◌, ℕ, zero, suc, List, [], ◌∷◌, length, take, Option, Some, Ok, Err, slice_get, refl, sym, ap, ap₂, arith}
+use Rattle.std.proofs.Common.{◌≡◌, ◌∙◌, ◌+◌, ◌≤◌, ℕ, zero, suc, List, [], ◌∷◌, length, take, Option, None, Some, Ok, Err, slice_get, refl, sym, ap, ap₂, arith}
 use Rattle.std.specs.Prelude.{option_map}
 use Rattle.std.proofs.lemmas.List.{length-map}
 use Rattle.lus_values.specs.Values.{Value, Row}
@@ -15,13 +15,10 @@ use Rattle.lus_orders.specs.declared.class.Class.{Class as Emitted}
 use Rattle.lus_orders.specs.Classes.{begun, calls_of, follows_class, part}
 use Rattle.lus_orders.specs.Made.{StateOf, flags_in, state_in, states_with, width}
 use Rattle.lus_orders.specs.Orders.{Board}
-use Rattle.lus_running.specs.declared.error.Failure.{Failure}
-use Rattle.lus_running.specs.declared.error.Failure.TheVariants as failures
 use Rattle.lus_running.specs.Answering.{AnswersTo}
 use Rattle.lus_running.specs.Fits.{FitsPresence}
 use Rattle.lus_running.specs.Instances.{Answers}
 use Rattle.lus_running.specs.Settings.{RunsClasses}
-use Rattle.lus_running.specs.Stopped.{error_of}
 use Rattle.lus_emission.proofs.Steps.{code_makes_class_steps}
 use Rattle.lus_emission.proofs.Segments.{short_found}
 use Rattle.lus_running.proofs.ShortSteps.{fits_on_clocks, step_same}
@@ -86,7 +83,7 @@ module _ (classes : List Class) (emitted : List Emitted) (runs : RunsClasses cla
         ∙ code_makes_class_steps classes emitted runs.size runs.code d g c f found coded within vs i long narrow given
         ∙ (λ j. option_map (λ (b : Board). (take (wide j) b.1, sym (state_same (suc d) g b.0) j)) left)
 
-    pub answers_ok : (count : ℕ) (outputs : Row) (ws : List Value) → c.inputs + count ≤ length c.tests.items → AnswersTo left (length i) count (Ok outputs) ws
+    pub answers_ok : (count : ℕ) (outputs : Row) (ws : List Value) → c.inputs + count ≤ length c.tests.items → AnswersTo left (length i) count (Ok (Some outputs)) ws
         → Answers c count (Ok outputs) stepped (state_in whole emitted (suc d) g ws)
     answers_ok count outputs ws room h =
         let b = h.0 in (
@@ -95,6 +92,5 @@ module _ (classes : List Class) (emitted : List Emitted) (runs : RunsClasses cla
           h.3 ∙ ap (λ n. part n count b.1) narrow ∙ part_taken c.inputs count (length c.tests.items) b.1 room,
         )
 
-    pub answers_err : (count : ℕ) (e : Failure) (ws : List Value) (s : State) → AnswersTo left (length i) count (Err e) ws → Answers c count (Err (error_of e)) stepped s
-    answers_err count failures.Fault ws s h = step_is ∙ ap (option_map told) h
-    answers_err count (failures.Stopped halt) ws s h = tt
+    pub answers_none : left ≡ None → stepped ≡ None
+    answers_none h = step_is ∙ ap (option_map told) h
