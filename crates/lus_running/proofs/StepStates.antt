@@ -1,5 +1,5 @@
 -- The step of an instance, from what the code of its class leaves.
-use Rattle.std.proofs.Common.{◌≡◌, ◌∙◌, ◌+◌, ◌≤◌, ℕ, zero, suc, List, [], ◌∷◌, length, take, Option, None, Some, Ok, Err, slice_get, refl, sym, ap, ap₂, arith}
+use Rattle.std.proofs.Common.{◌≡◌, ◌∙◌, ◌+◌, ◌≤◌, ℕ, zero, suc, List, [], ◌∷◌, length, take, Option, None, Some, Ok, slice_get, refl, sym, ap, ap₂, arith}
 use Rattle.std.specs.Prelude.{option_map}
 use Rattle.std.proofs.lemmas.List.{length-map}
 use Rattle.lus_values.specs.Values.{Value, Row}
@@ -17,10 +17,11 @@ use Rattle.lus_orders.specs.Made.{StateOf, flags_in, state_in, states_with, widt
 use Rattle.lus_orders.specs.Orders.{Board}
 use Rattle.lus_running.specs.Answering.{AnswersTo}
 use Rattle.lus_running.specs.Fits.{FitsPresence}
-use Rattle.lus_running.specs.Instances.{Answers}
+use Rattle.lus_running.specs.Instances.{Answers, HasRowsOfClass, Seen}
 use Rattle.lus_running.specs.Settings.{RunsClasses}
 use Rattle.lus_emission.proofs.Steps.{code_makes_class_steps}
 use Rattle.lus_emission.proofs.Segments.{short_found}
+use Rattle.lus_running.proofs.Seeing.{long_of}
 use Rattle.lus_running.proofs.ShortSteps.{fits_on_clocks, step_same}
 
 -- classes keep as many cells and first-flags, whether clocks are whole or cut to their newest tests
@@ -63,8 +64,16 @@ module _ (classes : List Class) (emitted : List Emitted) (runs : RunsClasses cla
       let calls = states_same (λ h us. state_in whole emitted d h us) (λ h us. state_in short emitted d h us) (state_same d) (calls_of emitted g) vs in
       λ i. state (take (m i) vs) (flags_in (part (m i) (n i) vs)) (calls i)
 
-  module _ (d g : ℕ) (c : Class) (f : Emitted) (found : slice_get classes g ≡ Some c) (coded : slice_get emitted g ≡ Some f) (within : WithinDepth whole (suc d) g)
-      (vs : List Value) (i : Row) (long : length vs ≡ f.cells) (narrow : length i ≡ c.inputs) (fits : FitsPresence c i) where
+  -- the step of an instance, whose node has this class and this code
+  module _ (d : ℕ) (o : Seen) (shaped : HasRowsOfClass classes emitted o) (within : WithinDepth whole (suc d) o.node) (i : Row)
+      (f : Emitted) (coded : slice_get emitted o.node ≡ Some f)
+      (c : Class) (found : slice_get classes o.node ≡ Some c) (narrow : length i ≡ c.inputs) (fits : FitsPresence c i) where
+    abbrev g : ℕ
+    g = o.node
+
+    abbrev vs : List Value
+    vs = o.cells
+
     abbrev left : Option Board
     left = follows_class emitted d f vs (vs, begun f.own i)
 
@@ -80,7 +89,7 @@ module _ (classes : List Class) (emitted : List Emitted) (runs : RunsClasses cla
         let wide : width short emitted g ≡ length c.tests.items = ap (λ (k : PlainClass). length k.clocks) (short_found classes g c found) ∙ length-map c.tests.items newest in
         sym (step_same classes runs.can runs.passing (state_in whole emitted (suc d) g vs) g c i found narrow given)
         ∙ ap (λ s. step short s g i) (state_same (suc d) g vs)
-        ∙ code_makes_class_steps classes emitted runs.size runs.code d g c f found coded within vs i long narrow given
+        ∙ code_makes_class_steps classes emitted runs.size runs.code d g c f found coded within vs i (long_of classes emitted o f coded shaped).cells narrow given
         ∙ (λ j. option_map (λ (b : Board). (take (wide j) b.1, sym (state_same (suc d) g b.0) j)) left)
 
     pub answers_ok : (count : ℕ) (outputs : Row) (ws : List Value) → c.inputs + count ≤ length c.tests.items → AnswersTo left (length i) count (Ok (Some outputs)) ws

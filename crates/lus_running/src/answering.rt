@@ -14,12 +14,7 @@ use lus_values::{Memory, Row, Value};
 use std::alloc::Global;
 
 /// So many outputs, which stand in a row from a place on, in no more memory than they need.
-fn outputs_in<T: Held>(
-    alloc: Global,
-    row: &[T],
-    from: usize,
-    outputs: usize,
-) -> Result<Row, Memory>
+fn outputs_in<T: Held>(alloc: Global, row: &[T], from: usize, outputs: usize) -> Result<Row, Memory>
     requires { from + outputs ≤ length row.now }
     ensures { IfOk result (λ found. found ≡ take outputs (drop from (map T.entry row.now))) }
 {
