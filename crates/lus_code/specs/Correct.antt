@@ -2,6 +2,7 @@
 use Rattle.std.specs.Prelude.{◌≡◌, ℕ, [], length, IsTrue, Some}
 use Rattle.lus_values.specs.Values.{Row}
 use Rattle.lus_program.specs.Programs.{Program, node_at}
+use Rattle.lus_classes.specs.Passing.{PassGiven}
 use Rattle.lus_classes.specs.States.{State, WithinDepth, fresh}
 use Rattle.lus_classes.specs.Steps.{step}
 use Rattle.lus_simulation.specs.Checked.{IsChecked}
@@ -27,8 +28,9 @@ pub record IsCorrect (c : ProgramCode) : Type 0 where
   -- and each of its nodes has a class, which belongs to the node in a normal form of the program,
   pub size : length c.classes ≡ length (program_of c).nodes
   pub belong : IsCodeOf (program_of c) (plain_classes c)
-  -- makes each step once what it reads is known, and calls classes.
+  -- makes each step once what it reads is known, and passes what is on the clocks of the classes that it calls.
   pub ready : CanAllBeEmitted c.classes
+  pub passing : PassGiven c.classes
   -- Calls are nested.
   pub nested : (f : ℕ) → WithinDepth (plain_classes c) (depth_of (program_of c)) f
   -- Each class has code, whose frames have room, which makes the class's instants,

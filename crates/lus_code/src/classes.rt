@@ -3,6 +3,7 @@
 ghost use Rattle.std.specs.Prelude.{◌≡◌, ℕ, List, length, map, IfOk};
 ghost use Rattle.lus_program.specs.View.{program_seen};
 ghost use Rattle.lus_classes.specs.ClassesOf.{AreClassesOf};
+ghost use Rattle.lus_classes.specs.Passing.{PassGiven};
 ghost use Rattle.lus_classes.specs.View.{classes_of};
 ghost use Rattle.lus_normal_form.specs.Ready.{AreReady};
 ghost use Rattle.lus_order.specs.Orders.{AreOrders};
@@ -35,11 +36,7 @@ pub struct Coded {
 }
 
 /// The class of each node of a program in normal form, whose variables have these orders, and the parts that make its steps.
-fn parted_classes(
-    alloc: Global,
-    program: &Program,
-    orders: &[Vec<u32>],
-) -> Result<Parted, Memory>
+fn parted_classes(alloc: Global, program: &Program, orders: &[Vec<u32>]) -> Result<Parted, Memory>
     requires ready { AreReady (program_seen program.now) }
     requires orders { AreOrders (program_seen program.now) (map (λ order. order.items) orders.now) }
     ensures turned { IfOk result (λ made. AreTurned (program_seen program.now) made.classes.items) }
@@ -71,6 +68,7 @@ pub fn classes_of_nodes(
     ensures belong { IfOk result (λ coded. AreClassesOf (program_seen program.now) (classes_of coded.classes.items)) }
     ensures size { IfOk result (λ coded. length coded.classes.items ≡ length (program_seen program.now).nodes) }
     ensures ready { IfOk result (λ coded. CanAllBeEmitted coded.classes.items) }
+    ensures passing { IfOk result (λ coded. PassGiven coded.classes.items) }
     ensures many { IfOk result (λ coded. length coded.emitted.items ≡ length coded.classes.items) }
     ensures framed { IfOk result (λ coded. AreFramed coded.emitted.items) }
     ensures code { IfOk result (λ coded. HaveCode coded.classes.items coded.emitted.items) }

@@ -14,8 +14,8 @@ use Rattle.lus_code.proofs.MadeClasses.{classes_belong}
 use Rattle.lus_code.proofs.Passing.{turned_pass_given}
 use Rattle.lus_code.proofs.classes.classes_of_nodes.Goals as goal
 
-pub emit_classes-emitted-requires : goal.emit_classes-emitted-requires
-emit_classes-emitted-requires c =
+pub emit_classes-requires : goal.emit_classes-requires
+emit_classes-requires c =
     let p = program_seen c.args.program.now in
     let made = c.in_ok-classes.field-0 in
     let classes = made.classes.items in
@@ -49,6 +49,7 @@ returns c =
       belong = classes_belong p classes turned;
       size = turned.size;
       ready = turned_can_be_emitted p classes turned small;
+      passing = turned_pass_given p classes turned;
       many = made.size ∙ ap (λ (cs : List Class). length cs) seen;
       framed = made.framed;
       code = subst (λ (cs : List Class). HaveCode cs emitted) seen (made.code (subst PassGiven (sym seen) (turned_pass_given p classes turned)));

@@ -19,8 +19,8 @@ use Rattle.lus_code.specs.Correct.{IsCorrect}
 use Rattle.lus_code.proofs.NormalForms.{kept_to, lefts_one}
 use Rattle.lus_code.proofs.code.translate.Goals as goal
 
-pub classes_of_nodes-coded-requires-clause-source : goal.classes_of_nodes-coded-requires-clause-source
-classes_of_nodes-coded-requires-clause-source c =
+pub classes_of_nodes-requires-clause-source : goal.classes_of_nodes-requires-clause-source
+classes_of_nodes-requires-clause-source c =
     let p = c.args.normal.source.program in
     let given : c.sound_of-sound.result.now ≡ p = c.sound_of-sound.ensures.same in
     record {
@@ -32,8 +32,8 @@ classes_of_nodes-coded-requires-clause-source c =
       ordered = subst (λ z. IsOrder (program_uses (program_seen z)) c.nodes.result.now) given c.nodes.ensures;
     }
 
-pub classes_of_nodes-coded-requires-clause-small : goal.classes_of_nodes-coded-requires-clause-small
-classes_of_nodes-coded-requires-clause-small c =
+pub classes_of_nodes-requires-clause-small : goal.classes_of_nodes-requires-clause-small
+classes_of_nodes-requires-clause-small c =
     let p = c.args.normal.source.program in
     let q = c.program.result.now in
     let cells = c.in_ok-cells.cells.items in
@@ -73,6 +73,7 @@ correct c =
       size = made.size ∙ c.program.ensures.size;
       belong = (program_seen q, code);
       ready = made.ready;
+      passing = made.passing;
       nested = nested;
       many = made.many;
       framed = made.framed;
