@@ -6,9 +6,11 @@ mod class;
 mod classes;
 mod instructions;
 mod laws;
+mod moving;
 mod parts;
 mod stores;
 mod targets;
+mod unfolding;
 
 pub use classes::emit_classes;
 pub use laws::{code_makes_class_steps, code_nests};
