@@ -1,6 +1,7 @@
-//! What `bench/run` measures, by the name `lus_bench` of the program. `lus_bench PROGRAM STEPS` steps an instance of a program's last node,
-//! which takes no inputs, so many times, and prints its last outputs, one a line. `lus_bench PROGRAM STEPS CALLERS lock`, or `seats`,
-//! lets each of so many callers, on a thread of its own, step the one instance, and prints how many entries it has.
+//! What `bench/run` measures. `lus_bench PROGRAM STEPS` steps an instance of a program's last node, which takes no inputs, so many times,
+//! and prints its last outputs, one a line. `lus_bench PROGRAM STEPS CALLERS lock`, or `seats`, lets each of so many callers, on a thread
+//! of its own, step the one instance, and prints how many entries it has. The status is 0 where it is done, 2 for words that ask for
+//! nothing, else 1.
 #![tactic(auto)]
 
 mod callers;
@@ -12,10 +13,11 @@ ghost use Rattle.lus_host.specs.CodeSpecs.Codes.{program_of};
 use callers::{Sharing, entries};
 use lus_host::{CallError, Machine, NodeId, Program, Reply, Request, Row, compile, print};
 use std::alloc::{AllocError, Global};
-use std::fs;
+use std::process::ExitCode;
 use std::rt::Files;
 use std::sync::{Arc, Wait};
 use std::thread::Threads;
+use std::{env, fs};
 
 /// The reply to the last of so many steps of an instance, none where there is no step.
 fn stepped(
@@ -91,11 +93,8 @@ fn share<R: Files + AllocGlobal + Print + Threads + Wait + Sync>(
     println!(rt; "{count}").ok()
 }
 
-/// Does what the words ask for, and gives the status of the process: 0 where it is done, 2 for words that ask for nothing, else 1.
-pub fn command<R: Files + AllocGlobal + Print + Threads + Wait + Sync>(
-    rt: &R,
-    words: &[String],
-) -> u8 {
+/// Does what the words ask for, and gives the status of the process.
+fn measure<R: Files + AllocGlobal + Print + Threads + Wait + Sync>(rt: &R, words: &[String]) -> u8 {
     let done = match words {
         [name, steps] => run(rt, name.as_str(), steps.as_str()),
         [name, steps, callers, sharing] => share(
@@ -111,4 +110,17 @@ pub fn command<R: Files + AllocGlobal + Print + Threads + Wait + Sync>(
         Some(()) => 0,
         None => 1,
     }
+}
+
+fn main(rt: HostRuntime) -> ExitCode {
+    let Ok(arguments) = env::args(&rt) else {
+        return ExitCode::from(2);
+    };
+    let Ok(arguments): Result<Vec<String>, AllocError> = arguments.collect(rt.alloc()) else {
+        return ExitCode::from(1);
+    };
+    ExitCode::from(match arguments.split_first() {
+        Some((_, words)) => measure(&rt, words),
+        None => 2,
+    })
 }
