@@ -1,5 +1,5 @@
 -- The step of an instance, from what the code of its class leaves.
-use Rattle.std.proofs.Common.{◌≡◌, ◌∙◌, ◌+◌, ◌≤◌, ℕ, zero, suc, List, [], ◌∷◌, length, take, Option, Some, Ok, Err, slice_get, refl, sym, ap, ap₂, arith}
+use Rattle.std.proofs.Common.{◌≡◌, ◌∙◌, ◌+◌, ◌≤◌, ℕ, zero, suc, List, [], ◌∷◌, length, take, Option, None, Some, Ok, slice_get, refl, sym, ap, ap₂, arith}
 use Rattle.std.specs.Prelude.{option_map}
 use Rattle.std.proofs.lemmas.List.{length-map}
 use Rattle.lus_values.specs.Values.{Value, Row}
@@ -15,16 +15,13 @@ use Rattle.lus_orders.specs.declared.class.Class.{Class as Emitted}
 use Rattle.lus_orders.specs.Classes.{begun, calls_of, follows_class, part}
 use Rattle.lus_orders.specs.Made.{StateOf, flags_in, state_in, states_with, width}
 use Rattle.lus_orders.specs.Orders.{Board}
-use Rattle.lus_running.specs.declared.error.Failure.{Failure}
-use Rattle.lus_running.specs.declared.error.Failure.TheVariants as failures
 use Rattle.lus_running.specs.Answering.{AnswersTo}
 use Rattle.lus_running.specs.Fits.{FitsPresence}
-use Rattle.lus_running.specs.Instances.{Answers}
+use Rattle.lus_running.specs.Instances.{Answers, HasRowsOfClass, Seen}
 use Rattle.lus_running.specs.Settings.{RunsClasses}
-use Rattle.lus_running.specs.Stopped.{error_of}
 use Rattle.lus_emission.proofs.Steps.{code_makes_class_steps}
-use Rattle.lus_running.proofs.GivenRows.{given_short}
 use Rattle.lus_emission.proofs.Segments.{short_found}
+use Rattle.lus_running.proofs.Seeing.{long_of}
 use Rattle.lus_running.proofs.ShortSteps.{fits_on_clocks, step_same}
 
 -- classes keep as many cells and first-flags, whether clocks are whole or cut to their newest tests
@@ -67,8 +64,16 @@ module _ (classes : List Class) (emitted : List Emitted) (runs : RunsClasses cla
       let calls = states_same (λ h us. state_in whole emitted d h us) (λ h us. state_in short emitted d h us) (state_same d) (calls_of emitted g) vs in
       λ i. state (take (m i) vs) (flags_in (part (m i) (n i) vs)) (calls i)
 
-  module _ (d g : ℕ) (c : Class) (f : Emitted) (found : slice_get classes g ≡ Some c) (coded : slice_get emitted g ≡ Some f) (within : WithinDepth whole (suc d) g)
-      (vs : List Value) (i : Row) (long : length vs ≡ f.cells) (narrow : length i ≡ c.inputs) (fits : FitsPresence c i) where
+  -- the step of an instance, whose node has this class and this code
+  module _ (d : ℕ) (o : Seen) (shaped : HasRowsOfClass classes emitted o) (within : WithinDepth whole (suc d) o.node) (i : Row)
+      (f : Emitted) (coded : slice_get emitted o.node ≡ Some f)
+      (c : Class) (found : slice_get classes o.node ≡ Some c) (narrow : length i ≡ c.inputs) (fits : FitsPresence c i) where
+    abbrev g : ℕ
+    g = o.node
+
+    abbrev vs : List Value
+    vs = o.cells
+
     abbrev left : Option Board
     left = follows_class emitted d f vs (vs, begun f.own i)
 
@@ -80,14 +85,14 @@ module _ (classes : List Class) (emitted : List Emitted) (runs : RunsClasses cla
 
     step_is : stepped ≡ option_map told left
     step_is =
-        let present = fits_on_clocks c i narrow fits in
+        let given = fits_on_clocks c i narrow fits in
         let wide : width short emitted g ≡ length c.tests.items = ap (λ (k : PlainClass). length k.clocks) (short_found classes g c found) ∙ length-map c.tests.items newest in
-        sym (step_same classes runs.can runs.passing (state_in whole emitted (suc d) g vs) g c i found narrow present)
+        sym (step_same classes runs.can runs.passing (state_in whole emitted (suc d) g vs) g c i found narrow given)
         ∙ ap (λ s. step short s g i) (state_same (suc d) g vs)
-        ∙ code_makes_class_steps classes emitted runs.size runs.code d g c f found coded within vs i long narrow (given_short c i present)
+        ∙ code_makes_class_steps classes emitted runs.size runs.code d g c f found coded within vs i (long_of classes emitted o f coded shaped).cells narrow given
         ∙ (λ j. option_map (λ (b : Board). (take (wide j) b.1, sym (state_same (suc d) g b.0) j)) left)
 
-    pub answers_ok : (count : ℕ) (outputs : Row) (ws : List Value) → c.inputs + count ≤ length c.tests.items → AnswersTo left (length i) count (Ok outputs) ws
+    pub answers_ok : (count : ℕ) (outputs : Row) (ws : List Value) → c.inputs + count ≤ length c.tests.items → AnswersTo left (length i) count (Ok (Some outputs)) ws
         → Answers c count (Ok outputs) stepped (state_in whole emitted (suc d) g ws)
     answers_ok count outputs ws room h =
         let b = h.0 in (
@@ -96,6 +101,5 @@ module _ (classes : List Class) (emitted : List Emitted) (runs : RunsClasses cla
           h.3 ∙ ap (λ n. part n count b.1) narrow ∙ part_taken c.inputs count (length c.tests.items) b.1 room,
         )
 
-    pub answers_err : (count : ℕ) (e : Failure) (ws : List Value) (s : State) → AnswersTo left (length i) count (Err e) ws → Answers c count (Err (error_of e)) stepped s
-    answers_err count failures.Fault ws s h = step_is ∙ ap (option_map told) h
-    answers_err count (failures.Stopped halt) ws s h = tt
+    pub answers_none : left ≡ None → stepped ≡ None
+    answers_none h = step_is ∙ ap (option_map told) h

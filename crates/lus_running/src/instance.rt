@@ -94,8 +94,12 @@ impl Instance {
             class: &on.emitted[self.node as usize],
             depth: on.depth,
         };
-        let answer = self.holding.step(&setting, inputs, outputs)?;
-        Ok(answer)
+        match self.holding.step(&setting, inputs, outputs) {
+            Ok(Some(found)) => Ok(found),
+            Ok(None) => Err(StepError::Fault),
+            // A step is made on entries where words meet a structure, so that it never stops there.
+            Err(_) => Err(StepError::Memory),
+        }
     }
 
     /// As it was before the step that was its last call; takes no memory.

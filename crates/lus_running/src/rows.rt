@@ -1,11 +1,10 @@
 //! Rows of what an instance keeps, of one kind.
 
-ghost use Rattle.std.specs.Prelude.{◌≡◌, ◌+◌, ◌↔◌, ℕ, false, true, IsTrue, IfOk};
+ghost use Rattle.std.specs.Prelude.{◌≡◌, ◌+◌, ◌↔◌, ℕ, IsTrue, IfOk};
 ghost use Rattle.lus_running.specs.Instances.{CanStep, IsBack, IsCopy, IsLong, IsNew, IsReset, MakesStep, exchanged, rows_seen};
 
 use crate::answering::answer;
 use crate::copying::copy_cells;
-use crate::error::Failure;
 use crate::filling::{empty_all, fill, filled};
 use lus_instructions::words::Word;
 use lus_instructions::{Held, Stop};
@@ -72,9 +71,14 @@ impl<T: Held> Rows<T> {
             && is_sum(self.row.len(), class.own, class.behind)
     }
 
-    /// One more instant of a class: so many outputs, with the cells of the last instant left behind as those for the next one; or the
-    /// rows keep what they kept.
-    pub fn step(&mut self, on: &Setting<'_>, inputs: &Row, outputs: usize) -> Result<Row, Failure>
+    /// One more instant of a class: so many outputs, if it has values, with the cells of the last instant left behind as those for the
+    /// next one; or the rows keep what they kept.
+    pub fn step(
+        &mut self,
+        on: &Setting<'_>,
+        inputs: &Row,
+        outputs: usize,
+    ) -> Result<Option<Row>, Stop>
         requires { CanStep on.now inputs.now outputs (rows_seen T.entry 0 self.old) }
         ensures { MakesStep on.now inputs.now outputs (rows_seen T.entry 0 self.old) result (rows_seen T.entry 0 self.new) }
     {
@@ -86,24 +90,27 @@ impl<T: Held> Rows<T> {
             &mut self.next,
             &mut self.row,
         );
-        self.take_over(answer.is_ok());
-        answer
+        match answer {
+            Ok(Some(found)) => {
+                self.exchange();
+                Ok(Some(found))
+            }
+            Ok(None) => Ok(None),
+            Err(stop) => Err(stop),
+        }
     }
 
-    /// Keeps what an instant left for the next one, if it was made; otherwise what was kept stays.
-    fn take_over(&mut self, is_made: bool)
-        ensures made { is_made ≡ true → self.new ≡ exchanged self.old }
-        ensures not { is_made ≡ false → self.new ≡ self.old }
+    /// Keeps what were the cells of the next instant, and the other way round; takes no memory.
+    fn exchange(&mut self)
+        ensures { self.new ≡ exchanged self.old }
     {
-        if is_made {
-            swap(&mut self.cells, &mut self.next);
-        }
+        swap(&mut self.cells, &mut self.next);
     }
 
     /// As they were before the step that was their last call; takes no memory.
     pub fn go_back(&mut self)
         ensures { (g : ℕ) → IsBack (rows_seen T.entry g self.old) (rows_seen T.entry g self.new) }
     {
-        swap(&mut self.cells, &mut self.next);
+        self.exchange();
     }
 }

@@ -39,4 +39,4 @@ returns g c =
     let i = map entry_of c.args.inputs.now in
     answers_with g.T.Held.entry s i c.args.cells.now c.copy_cells.new.copies c.begin.new.own c.follow_class.new.next c.follow_class.new.own c.in_ok-made.made
     c.in_ok-copy_cells.ensures (c.in_ok-begin.ensures ∙ ap (λ n. begun n i) c.split_at_mut-own.ensures.front_len) c.in_ok-made.ensures c.if-not-made.false
-    (length c.args.inputs.now) c.args.outputs c.outputs_in.result c.outputs_in.ensures
+    (length c.args.inputs.now) c.args.outputs c.in_ok-found.found c.in_ok-found.ensures
