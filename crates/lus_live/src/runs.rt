@@ -48,9 +48,11 @@ pub(crate) fn run<J: Writes, S: Source, L: Log, O: Syncs, F: Sink>(
     ensures stays { StaysIn (writes_file task.entry.form (task_seen task.entry).file)
         (change (L.written log.old) (L.written log.new) (L.failures log.old) (L.failures log.new)) }
 {
-    let mut instance = begun.instance;
+    let Begun {
+        mut instance,
+        start,
+    } = begun;
     let reactor = &mut instance;
-    let start = begun.start;
     let is_synced = task.is_synced;
     let calls = JsonCalls {
         alloc,
