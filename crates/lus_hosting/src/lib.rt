@@ -22,5 +22,6 @@ pub use laws::logs_are_joined;
 pub use lus_bursts;
 pub use lus_lawful;
 pub use lus_live_instance;
+pub use lus_sessions;
 pub use recovering::{Recovered, recover_log};
 pub use telling::{LogLines, Tells};
