@@ -1,3 +1,5 @@
 pub mod Left
 pub mod EndLaws
 pub mod NodePlaces
+pub mod Statuses
+pub mod Verdicts

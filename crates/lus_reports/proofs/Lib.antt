@@ -1,2 +1,1 @@
-pub mod Statuses
 pub use Rattle.lus_cli.proofs as CliProofs

@@ -1,8 +1,6 @@
 //! Why scripts are refused, and where it shows.
 
-ghost use Rattle.std.specs.Prelude.{◌≡◌, ◌++◌, IfErr, IfOk, OnOk, codes, option_map, string_bytes};
-ghost use Rattle.lus_cli.specs.Faults.{script_text};
-ghost use Rattle.lus_reports.specs.Complaints.{SaysRefusal, complaint_text, found_text, meaning_of, wanted_text};
+ghost use Rattle.std.specs.Prelude.{IfErr, IfOk};
 ghost use Rattle.lus_cli.specs.CodeSpecs.Codes.{program_of};
 ghost use Rattle.lus_cli.specs.HostSpecs.ScriptRefusals.{AreRefused, AreScripts};
 ghost use Rattle.lus_scripts.specs.View.{scripts_seen};
@@ -13,33 +11,29 @@ use crate::form::wrong_form;
 use crate::keys::with_keys;
 use crate::known::{doubled_name, too_many, unknown_name};
 use crate::value::wrong_value;
+use lus_causes::lus_faults::Position;
 use lus_cli::lus_host::Program;
 use lus_cli::script_text;
 use lus_culprits::{fault_at, push_unexpected, sentence};
+use lus_diagnostics::{Code, Diagnostic, Site};
 use lus_scripts::{ScriptRefusal, Scripts, read_scripts};
 use lus_syntax::{MOST_BYTES, Place, place_behind};
 use lus_values::Memory;
 use serde_json::Value;
 use std::alloc::{AllocError, Global};
 
-/// A refusal of scripts, and the check that failed with its place, where they are found again.
-#[derive(Drop)]
-pub struct Complaint {
-    pub refusal: ScriptRefusal,
-    pub finding: Option<Finding>,
-}
-
 /// The scripts of a program that bytes are, or why they are refused: by the first check that fails.
-pub fn explain_scripts(alloc: Global, program: &Program, bytes: &[u8]) -> Result<Scripts, Complaint>
+pub fn explain_scripts(
+    alloc: Global,
+    program: &Program,
+    bytes: &[u8],
+) -> Result<Scripts, ScriptRefusal>
     ensures accepted { IfOk result (λ s. AreScripts (program_of program.now) bytes.now (scripts_seen s)) }
-    ensures refused { IfErr result (λ c. AreRefused (program_of program.now) bytes.now c.refusal) }
+    ensures refused { IfErr result (λ e. AreRefused (program_of program.now) bytes.now e) }
 {
     match read_scripts(alloc, program.source(), program.names(), bytes) {
         Ok(scripts) => Ok(scripts),
-        Err(refusal) => {
-            let finding = find(alloc, program, bytes, refusal);
-            Err(Complaint { refusal, finding })
-        }
+        Err(refusal) => Err(refusal),
     }
 }
 
@@ -107,9 +101,7 @@ fn find_in(
 }
 
 /// What a refusal of scripts means.
-pub fn meaning_of(refusal: ScriptRefusal) -> &'static str
-    ensures { result.now ≡ meaning_of refusal }
-{
+fn meaning_of(refusal: ScriptRefusal) -> &'static str {
     match refusal {
         ScriptRefusal::Json => "invalid JSON",
         ScriptRefusal::Form => "invalid scripts",
@@ -120,65 +112,34 @@ pub fn meaning_of(refusal: ScriptRefusal) -> &'static str
     }
 }
 
-/// Appends the name of the file, and the place in it where it is found.
-fn push_place(report: &mut String, name: &str, found: Option<Found>) -> Result<(), AllocError>
-    ensures { OnOk result (string_bytes report.new ≡ string_bytes report.old ++ name.now ++ found_text found) }
-{
+/// Where scripts fail, as it is said.
+fn site_of(alloc: Global, found: Option<Found>) -> Result<Site, AllocError> {
     match found {
-        Some(Found::Bytes { line, column }) => write!(report, "{name}:{line}:{column}: "),
-        Some(Found::Json(spot)) => write!(report, "{name}: {spot}: "),
-        None => write!(report, "{name}: "),
+        Some(Found::Bytes { line, column }) => Ok(Site::Scripts(Position { line, column })),
+        Some(Found::Json(spot)) => Ok(Site::Json(format!(in alloc; "{spot}")?)),
+        None => Ok(Site::File),
     }
 }
 
-/// Appends the number, what it means, and what is wanted.
-fn push_fault(
-    report: &mut String,
+/// The error of scripts that are refused so, of which the check that failed and its place are found again.
+pub fn script_error(
+    alloc: Global,
+    program: &Program,
+    bytes: &[u8],
     refusal: ScriptRefusal,
-    wanted: Option<&str>,
-) -> Result<(), AllocError>
-    ensures { OnOk result (string_bytes report.new ≡ string_bytes report.old ++ codes "error " ++ script_text refusal ++ codes ": "
-        ++ meaning_of refusal ++ wanted_text (option_map (λ t. t.now) wanted.entry) ++ codes "\n") }
-{
-    let number = script_text(refusal);
+) -> Result<Diagnostic, AllocError> {
+    let code = Code::Scripts(script_text(refusal));
     let meaning = meaning_of(refusal);
-    match wanted {
-        Some(sentence) => write!(report, "error {number}: {meaning}: {sentence}\n"),
-        None => write!(report, "error {number}: {meaning}\n"),
-    }
-}
-
-/// The name of the file and a place in it, the number and what it means, and what is wanted.
-fn complaint_text(
-    alloc: Global,
-    name: &str,
-    refusal: ScriptRefusal,
-    found: Option<Found>,
-    wanted: Option<&str>,
-) -> Result<String, AllocError>
-    ensures { IfOk result (λ text. string_bytes text
-        ≡ complaint_text name.now refusal found (option_map (λ t. t.now) wanted.entry)) }
-{
-    let mut report = String::new(alloc);
-    push_place(&mut report, name, found)?;
-    push_fault(&mut report, refusal, wanted)?;
-    Ok(report)
-}
-
-/// All that is said of a refusal of the scripts of this name: where and what, and the check that failed.
-pub fn report_scripts(
-    alloc: Global,
-    name: &str,
-    complaint: &Complaint,
-) -> Result<String, AllocError>
-    ensures { IfOk result (λ text. SaysRefusal name.now complaint.now.refusal (string_bytes text)) }
-{
-    let refusal = complaint.refusal;
-    match &complaint.finding {
+    match find(alloc, program, bytes, refusal) {
         Some(finding) => {
             let wanted = finding.sentence();
-            complaint_text(alloc, name, refusal, finding.found, Some(wanted))
+            let message = format!(in alloc; "{meaning}: {wanted}")?;
+            let site = site_of(alloc, finding.found)?;
+            Ok(Diagnostic::new(alloc, code, site, message))
         }
-        None => complaint_text(alloc, name, refusal, None, None),
+        None => {
+            let message = String::from_str(alloc, meaning)?;
+            Ok(Diagnostic::new(alloc, code, Site::File, message))
+        }
     }
 }

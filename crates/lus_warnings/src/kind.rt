@@ -1,8 +1,6 @@
 //! What is warned of.
 
-use std::fmt;
-
-/// What a warning is of. Printed as `unused_input` and the like.
+/// What a warning is of.
 #[derive(Clone, Copy)]
 pub enum Kind {
     /// A type that nothing names.
@@ -42,11 +40,5 @@ impl Kind {
             Kind::ConstantComparison => "constant_comparison",
             Kind::ConstantFault => "constant_fault",
         }
-    }
-}
-
-impl fmt::Display for Kind {
-    fn fmt<W: fmt::Write>(&self, f: &mut fmt::Formatter<W>) -> fmt::Result {
-        f.write_str(self.as_str())
     }
 }

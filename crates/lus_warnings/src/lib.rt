@@ -12,10 +12,7 @@ mod numbers;
 mod same;
 mod scope;
 mod table;
-mod telling;
 mod unused;
 mod warning;
 
-pub use kind::Kind;
-pub use telling::push_warnings;
-pub use warning::{Warning, warnings_of};
+pub use warning::warnings_of;

@@ -7,36 +7,24 @@ use crate::faults::{Fault, constant_fault, fault_in};
 use crate::kind::Kind;
 use crate::known::{Scope, Values, values_by_name};
 use crate::unused::{Declaration, unused_in};
-use lus_faults::{Finding, expressions_in};
+use lus_diagnostics::{Code, Diagnostic, Site};
+use lus_faults::expressions_in;
 use lus_grammar::parse;
 use lus_syntax::{Expr, Group, Node, Refusal, Span, Token, Tree, lex};
 use std::alloc::{AllocError, Global};
 
-/// What is warned of, where it stands, and what is said of it: a sentence, further places, a note, and how to write it.
-#[derive(Drop)]
-pub struct Warning {
-    pub kind: Kind,
-    pub span: Span,
-    pub finding: Finding,
-}
-
-impl Warning {
-    /// A warning with a sentence and a note.
-    pub(crate) fn new(
-        alloc: Global,
-        kind: Kind,
-        span: Span,
-        sentence: String,
-        note: &str,
-    ) -> Result<Warning, AllocError> {
-        let mut finding = Finding::new(alloc, sentence, span.length).with_note(alloc, note)?;
-        finding.place = Some(span.start);
-        Ok(Warning {
-            kind,
-            span,
-            finding,
-        })
-    }
+/// A warning with a sentence and a note.
+pub(crate) fn warning(
+    alloc: Global,
+    kind: Kind,
+    span: Span,
+    sentence: String,
+    note: &str,
+) -> Result<Diagnostic, AllocError> {
+    let code = Code::Warning(kind.as_str());
+    let mut told = Diagnostic::new(alloc, code, Site::Program(span), sentence);
+    told.note = Some(String::from_str(alloc, note)?);
+    Ok(told)
 }
 
 /// What is said of a declaration that nothing uses: before its name, behind it, and a note.
@@ -76,11 +64,11 @@ fn words_of(kind: Kind) -> (&'static str, &'static str, &'static str) {
 }
 
 /// The warning of a declaration that nothing uses.
-fn of_unused(alloc: Global, found: Declaration<'_>) -> Result<Warning, AllocError> {
+fn of_unused(alloc: Global, found: Declaration<'_>) -> Result<Diagnostic, AllocError> {
     let (front, behind, note) = words_of(found.kind);
     let name = found.name.text.as_str();
     let sentence = format!(in alloc; "{front}`{name}`{behind}")?;
-    Warning::new(alloc, found.kind, found.name.span, sentence, note)
+    warning(alloc, found.kind, found.name.span, sentence, note)
 }
 
 /// What is warned of.
@@ -225,7 +213,7 @@ fn causes_in<'t>(
 }
 
 /// The warning of what is warned of.
-fn warning_of(alloc: Global, source: &str, cause: Cause<'_>) -> Result<Warning, AllocError> {
+fn warning_of(alloc: Global, source: &str, cause: Cause<'_>) -> Result<Diagnostic, AllocError> {
     match cause {
         Cause::Unused(unused) => of_unused(alloc, unused),
         Cause::Division(division) => unguarded_division(alloc, source, division),
@@ -240,12 +228,12 @@ fn warnings_by(
     alloc: Global,
     source: &str,
     causes: &[Cause<'_>],
-) -> Result<Vec<Warning>, AllocError> {
+) -> Result<Vec<Diagnostic>, AllocError> {
     let mut warnings = Vec::new(alloc);
     for cause in causes {
         warnings.push(warning_of(alloc, source, *cause)?)?;
     }
-    warnings.sort_by_key(|warning| warning.span.start.byte)?;
+    warnings.sort_by_key(|warning| warning.span().start.byte)?;
     Ok(warnings)
 }
 
@@ -256,7 +244,7 @@ fn warnings_in(
     tokens: &[Token<'_>],
     tree: &Tree,
     run: Option<&[&str]>,
-) -> Result<Vec<Warning>, AllocError> {
+) -> Result<Vec<Diagnostic>, AllocError> {
     let causes = causes_in(alloc, source, tokens, tree, run)?;
     warnings_by(alloc, source, &causes)
 }
@@ -267,7 +255,7 @@ pub fn warnings_of(
     alloc: Global,
     source: &str,
     run: Option<&[&str]>,
-) -> Result<Vec<Warning>, Refusal> {
+) -> Result<Vec<Diagnostic>, Refusal> {
     let tokens = lex(alloc, source)?;
     let tree = parse(alloc, &tokens)?;
     Ok(warnings_in(alloc, source, &tokens, &tree, run)?)
