@@ -220,8 +220,9 @@ const S6: &str = "S6: out of memory
 
 const WARNINGS: &str = "Warnings
 
-`lus_explain --warnings PROGRAM [SCRIPTS]` tells what the author of an accepted program can
-hardly have meant. No status changes. A name that begins with `_` needs no use.
+`lus_explain PROGRAM [SCRIPTS]` tells what the author of an accepted program can hardly have
+meant. The status is 0; with `--deny-warnings` it is 1. With `--no-warnings` nothing is told. A
+name that begins with `_` needs no use.
 
 unused_input, unused_local
 

@@ -11,13 +11,7 @@ use lus_reports::report;
 use std::alloc::Global;
 use std::str;
 
-fn explain_file(
-    alloc: Global,
-    text: &[u8],
-    name: &str,
-    room: &mut [u8],
-    bytes: &mut u64,
-) -> u32
+fn explain_file(alloc: Global, text: &[u8], name: &str, room: &mut [u8], bytes: &mut u64) -> u32
     ensures told { IsMemory result ⊎ ExplanationIsTold text.now result bytes.new room.old room.new }
     ensures missed { IsOkay result ⊎ (room.new ≡ room.old) }
 {

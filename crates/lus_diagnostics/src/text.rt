@@ -73,10 +73,12 @@ fn push_edit(
 fn push_head(text: &mut String, name: &str, told: &Diagnostic) -> Result<(), AllocError> {
     text.push_str(name)?;
     match &told.site {
-        Site::Program(Span {
-            start: Place { line, column, .. },
-            ..
-        })
+        Site::Program(
+            Span {
+                start: Place { line, column, .. },
+                ..
+            },
+        )
         | Site::Scripts(Position { line, column }) => write!(text, ":{line}:{column}")?,
         Site::Json(key) => write!(text, ": {key}")?,
         Site::File => {}
@@ -129,7 +131,10 @@ fn push_sections(text: &mut String, all: &[Diagnostic]) -> Result<(), AllocError
             return Ok(());
         };
         let before = all.get(..place).unwrap_or(&[]);
-        if before.iter().all(|other| other.code.section() != Some(section)) {
+        if before
+            .iter()
+            .all(|other| other.code.section() != Some(section))
+        {
             write!(text, "{front}{section}")?;
             front = ", #";
         }

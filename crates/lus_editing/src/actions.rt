@@ -51,7 +51,12 @@ fn push_action(
     )?;
     push_string(alloc, text, uri)?;
     text.push_str(":[{\"range\":")?;
-    push_range(text, lines, edit.byte, edit.byte.saturating_add(edit.length))?;
+    push_range(
+        text,
+        lines,
+        edit.byte,
+        edit.byte.saturating_add(edit.length),
+    )?;
     text.push_str(",\"newText\":")?;
     push_string(alloc, text, edit.text.as_str())?;
     text.push_str("}]}}}")

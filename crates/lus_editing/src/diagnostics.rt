@@ -23,7 +23,11 @@ fn message_of(told: &Diagnostic, shows_related: bool) -> Result<String, AllocErr
         for place in &told.related {
             let start = place.span.start;
             let label = &place.label;
-            write!(message, "\nline {}, column {}: {label}", start.line, start.column)?;
+            write!(
+                message,
+                "\nline {}, column {}: {label}",
+                start.line, start.column
+            )?;
         }
     }
     Ok(message)
@@ -75,7 +79,10 @@ fn push_head(text: &mut String, told: &Diagnostic) -> Result<(), AllocError> {
             text,
             "{{\"source\":\"lus\",\"code\":\"{code}\",\"data\":{{\"line\":{line},\"column\":{column}}},\"severity\":1"
         ),
-        _ => write!(text, "{{\"source\":\"lus\",\"severity\":2,\"code\":\"{code}\""),
+        _ => write!(
+            text,
+            "{{\"source\":\"lus\",\"severity\":2,\"code\":\"{code}\""
+        ),
     }
 }
 

@@ -12,7 +12,9 @@ use crate::words::Form;
 use lus_diagnostics::{Diagnostic, push_lines, push_report};
 use lus_reports::lus_cli::Fault;
 use lus_reports::lus_cli::lus_host::{Program, text_of};
-use lus_reports::{diagnose, errors_of, explain, explain_scripts, outline, script_error, warned_of};
+use lus_reports::{
+    diagnose, errors_of, explain, explain_scripts, outline, script_error, warned_of,
+};
 use lus_scripts::{Instance, ScriptRefusal, Scripts};
 use lus_syntax::Refusal;
 use lus_values::Memory;

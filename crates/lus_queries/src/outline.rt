@@ -1,8 +1,8 @@
 //! The outline of a text: what it declares, and which lines can be folded.
 
 use crate::places::{Lines, lines_of, push_range, push_span};
-use lus_faults::slice_of;
 use lus_diagnostics::push_string;
+use lus_faults::slice_of;
 use lus_occurrences::{Declaration, Declared, Names, names_of};
 use lus_syntax::{Place, Span, Symbol, Token, TokenKind, Word};
 use std::alloc::{AllocError, Global};

@@ -196,7 +196,11 @@ fn note_on(by: Chooser) -> &'static str {
 }
 
 /// The warning of a division behind a test of its divisor, without what is related to it.
-fn told_alone(alloc: Global, source: &str, division: Division<'_>) -> Result<Diagnostic, AllocError> {
+fn told_alone(
+    alloc: Global,
+    source: &str,
+    division: Division<'_>,
+) -> Result<Diagnostic, AllocError> {
     let text = text_of(source, division.whole);
     let by = divisor_text(source, division.divisor);
     let sentence = format!(in alloc;

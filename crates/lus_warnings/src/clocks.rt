@@ -117,7 +117,10 @@ fn told_alone(alloc: Global, found: FixedTest<'_>) -> Result<Diagnostic, AllocEr
 }
 
 /// The warning of a test of a variable that is always the same.
-pub(crate) fn constant_clock(alloc: Global, found: FixedTest<'_>) -> Result<Diagnostic, AllocError> {
+pub(crate) fn constant_clock(
+    alloc: Global,
+    found: FixedTest<'_>,
+) -> Result<Diagnostic, AllocError> {
     let mut told = told_alone(alloc, found)?;
     let text = clock_of(found.test).text.as_str();
     let value = found.fixed.value;
