@@ -2,4 +2,3 @@ pub mod Left
 pub mod EndLaws
 pub mod NodePlaces
 pub mod Statuses
-pub mod Verdicts

@@ -1,1 +1,2 @@
+pub mod Verdicts
 pub use Rattle.lus_cli.proofs as CliProofs

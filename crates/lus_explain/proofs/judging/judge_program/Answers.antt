@@ -2,7 +2,7 @@
 use Rattle.std.proofs.Common.{rules, ◌≡◌, ◌≢◌, length}
 use Rattle.std.proofs.lemmas.Result.{IfOk-weaker}
 use Rattle.lus_explain.specs.Judged.{is_accepted, is_refused}
-use Rattle.lus_explain.proofs.Verdicts.{accepted_by, refused_by}
+use Rattle.lus_reports.proofs.Verdicts.{accepted_by, refused_by}
 use Rattle.lus_explain.proofs.judging.judge_program.Goals as goal
 
 pub returns-then-is_empty-clause-judged : goal.returns-then-is_empty-clause-judged
