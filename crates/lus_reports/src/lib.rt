@@ -5,7 +5,7 @@
 mod check;
 mod diagnosing;
 mod explanation;
-mod finding;
+mod failed_check;
 mod form;
 mod keys;
 mod known;

@@ -6,7 +6,7 @@ ghost use Rattle.lus_cli.specs.HostSpecs.ScriptRefusals.{AreRefused, AreScripts}
 ghost use Rattle.lus_scripts.specs.View.{scripts_seen};
 
 use crate::check::Check;
-use crate::finding::{Finding, Found};
+use crate::failed_check::FailedCheck;
 use crate::form::wrong_form;
 use crate::keys::with_keys;
 use crate::known::{doubled_name, too_many, unknown_name};
@@ -37,69 +37,6 @@ pub fn explain_scripts(
     }
 }
 
-/// Where scripts are refused so, if there is memory to look.
-fn find(alloc: Global, program: &Program, bytes: &[u8], refusal: ScriptRefusal) -> Option<Finding> {
-    if bytes.len() > MOST_BYTES {
-        return Some(Finding {
-            found: None,
-            check: Check::Size,
-            culprit: None,
-        });
-    }
-    match Value::from_slice(alloc, bytes) {
-        Ok(json) => find_in(alloc, program, &json, refusal),
-        Err(error) if error.is_memory() => None,
-        Err(error) => no_json(alloc, bytes, error.line(), error.column()),
-    }
-}
-
-/// What stands in bytes behind the front that JSON may begin with.
-fn unexpected(alloc: Global, front: &[u8], rest: &[u8]) -> Result<String, Memory> {
-    let mut text = String::new(alloc);
-    push_unexpected(&mut text, alloc, front, rest)?;
-    sentence(alloc, &text, "unexpected character")
-}
-
-/// Where bytes stop being JSON, whose reader stopped at this line and column.
-fn no_json(alloc: Global, bytes: &[u8], line: usize, column: usize) -> Option<Finding> {
-    let offset = fault_at(alloc, bytes, line, column)?;
-    let check = if offset == bytes.len() {
-        Check::End
-    } else {
-        Check::Json
-    };
-    let Place { line, column, .. } = place_behind(&bytes[..offset]);
-    let culprit = if offset < bytes.len() {
-        unexpected(alloc, &bytes[..offset], &bytes[offset..]).ok()
-    } else {
-        None
-    };
-    Some(Finding {
-        found: Some(Found::Bytes { line, column }),
-        check,
-        culprit,
-    })
-}
-
-/// Where the JSON of scripts is refused so, if there is memory to look.
-fn find_in(
-    alloc: Global,
-    program: &Program,
-    scripts: &Value,
-    refusal: ScriptRefusal,
-) -> Option<Finding> {
-    match refusal {
-        ScriptRefusal::Form => match wrong_form(scripts) {
-            Some(finding) => with_keys(alloc, scripts, finding).ok(),
-            None => wrong_value(alloc, program, scripts).unwrap_or(None),
-        },
-        ScriptRefusal::Limit => too_many(scripts),
-        ScriptRefusal::Double => doubled_name(scripts),
-        ScriptRefusal::Unknown => unknown_name(alloc, program, scripts).unwrap_or(None),
-        ScriptRefusal::Json | ScriptRefusal::Memory => None,
-    }
-}
-
 /// What a refusal of scripts means.
 fn meaning_of(refusal: ScriptRefusal) -> &'static str {
     match refusal {
@@ -112,34 +49,89 @@ fn meaning_of(refusal: ScriptRefusal) -> &'static str {
     }
 }
 
-/// Where scripts fail, as it is said.
-fn site_of(alloc: Global, found: Option<Found>) -> Result<Site, AllocError> {
-    match found {
-        Some(Found::Bytes { line, column }) => Ok(Site::Scripts(Position { line, column })),
-        Some(Found::Json(spot)) => Ok(Site::Json(format!(in alloc; "{spot}")?)),
-        None => Ok(Site::File),
+/// The error of a refusal of scripts at a place, and what is wrong there, where that is known.
+fn error_at(
+    alloc: Global,
+    refusal: ScriptRefusal,
+    site: Site,
+    wrong: Option<&str>,
+) -> Result<Diagnostic, AllocError> {
+    let meaning = meaning_of(refusal);
+    let message = match wrong {
+        Some(wrong) => format!(in alloc; "{meaning}: {wrong}")?,
+        None => String::from_str(alloc, meaning)?,
+    };
+    let code = Code::Scripts(script_text(refusal));
+    Ok(Diagnostic::new(alloc, code, site, message))
+}
+
+/// What stands in bytes behind the front that JSON may begin with.
+fn unexpected(alloc: Global, front: &[u8], rest: &[u8]) -> Result<String, Memory> {
+    let mut text = String::new(alloc);
+    push_unexpected(&mut text, alloc, front, rest)?;
+    sentence(alloc, &text, "unexpected character")
+}
+
+/// The error where bytes stop being JSON, whose reader stopped at this line and column.
+fn no_json(
+    alloc: Global,
+    bytes: &[u8],
+    refusal: ScriptRefusal,
+    line: usize,
+    column: usize,
+) -> Result<Diagnostic, AllocError> {
+    let Some(offset) = fault_at(alloc, bytes, line, column) else {
+        return error_at(alloc, refusal, Site::File, None);
+    };
+    let Place { line, column, .. } = place_behind(&bytes[..offset]);
+    let site = Site::Scripts(Position { line, column });
+    if offset == bytes.len() {
+        return error_at(alloc, refusal, site, Some(Check::End.sentence()));
+    }
+    match unexpected(alloc, &bytes[..offset], &bytes[offset..]) {
+        Ok(wrong) => error_at(alloc, refusal, site, Some(wrong.as_str())),
+        Err(_) => error_at(alloc, refusal, site, Some(Check::Json.sentence())),
     }
 }
 
-/// The error of scripts that are refused so, of which the check that failed and its place are found again.
+/// The check for which the JSON of scripts is refused so, if there is memory to look.
+fn find_in(
+    alloc: Global,
+    program: &Program,
+    scripts: &Value,
+    refusal: ScriptRefusal,
+) -> Option<FailedCheck> {
+    match refusal {
+        ScriptRefusal::Form => match wrong_form(scripts) {
+            Some(failed) => with_keys(alloc, scripts, failed).ok(),
+            None => wrong_value(alloc, program, scripts).unwrap_or(None),
+        },
+        ScriptRefusal::Limit => too_many(scripts),
+        ScriptRefusal::Double => doubled_name(scripts),
+        ScriptRefusal::Unknown => unknown_name(alloc, program, scripts).unwrap_or(None),
+        ScriptRefusal::Json | ScriptRefusal::Memory => None,
+    }
+}
+
+/// The error of scripts that are refused so, of which the check that failed and its place are found again, if there is memory to look.
 pub fn script_error(
     alloc: Global,
     program: &Program,
     bytes: &[u8],
     refusal: ScriptRefusal,
 ) -> Result<Diagnostic, AllocError> {
-    let code = Code::Scripts(script_text(refusal));
-    let meaning = meaning_of(refusal);
-    match find(alloc, program, bytes, refusal) {
-        Some(finding) => {
-            let wanted = finding.sentence();
-            let message = format!(in alloc; "{meaning}: {wanted}")?;
-            let site = site_of(alloc, finding.found)?;
-            Ok(Diagnostic::new(alloc, code, site, message))
-        }
-        None => {
-            let message = String::from_str(alloc, meaning)?;
-            Ok(Diagnostic::new(alloc, code, Site::File, message))
-        }
+    if bytes.len() > MOST_BYTES {
+        return error_at(alloc, refusal, Site::File, Some(Check::Size.sentence()));
     }
+    let failed = match Value::from_slice(alloc, bytes) {
+        Ok(json) => find_in(alloc, program, &json, refusal),
+        Err(error) if error.is_memory() => None,
+        Err(error) => return no_json(alloc, bytes, refusal, error.line(), error.column()),
+    };
+    let Some(failed) = failed else {
+        return error_at(alloc, refusal, Site::File, None);
+    };
+    let spot = failed.spot;
+    let site = Site::Json(format!(in alloc; "{spot}")?);
+    error_at(alloc, refusal, site, Some(failed.sentence()))
 }
