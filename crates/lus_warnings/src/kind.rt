@@ -23,6 +23,10 @@ pub enum Kind {
     ConstantComparison,
     /// An operation that never has a value.
     ConstantFault,
+    /// A constant whose name a variable has.
+    HiddenConstant,
+    /// A choice whose branches are the same.
+    SameBranches,
 }
 
 impl Kind {
@@ -39,6 +43,8 @@ impl Kind {
             Kind::ConstantClock => "constant_clock",
             Kind::ConstantComparison => "constant_comparison",
             Kind::ConstantFault => "constant_fault",
+            Kind::HiddenConstant => "hidden_constant",
+            Kind::SameBranches => "same_branches",
         }
     }
 }

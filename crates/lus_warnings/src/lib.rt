@@ -2,10 +2,12 @@
 #![tactic(auto)]
 
 mod branches;
+mod choices;
 mod clocks;
 mod comparisons;
 mod faults;
 mod guards;
+mod hidden;
 mod kind;
 mod known;
 mod numbers;

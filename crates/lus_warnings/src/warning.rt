@@ -1,9 +1,11 @@
 //! Warnings of an accepted source.
 
 use crate::branches::{Division, Divisions, divisions_in, unguarded_division};
+use crate::choices::{choice_in, same_branches};
 use crate::clocks::{AllFixed, FixedTest, constant_clock, fixed_by, fixed_in, sampling};
 use crate::comparisons::{Comparison, comparison_in, constant_comparison};
 use crate::faults::{Fault, constant_fault, fault_in};
+use crate::hidden::{Constants, Hidden, constants_of, hidden_by, hidden_constant};
 use crate::kind::Kind;
 use crate::known::{Scope, Values, values_by_name};
 use crate::unused::{Declaration, unused_in};
@@ -79,6 +81,8 @@ enum Cause<'t> {
     Comparison(Comparison<'t>),
     Clock(FixedTest<'t>),
     Fault(Fault<'t>),
+    Hidden(Hidden<'t>),
+    Choice(&'t Expr),
 }
 
 /// Appends the clocks of some groups that are always the same.
@@ -115,6 +119,9 @@ fn push_expressions<'t>(
         }
         if let Some(clock) = sampling(fixed, inner) {
             found.push(Cause::Clock(clock))?;
+        }
+        if let Some(choice) = choice_in(source, inner) {
+            found.push(Cause::Choice(choice))?;
         }
     }
     Ok(())
@@ -169,6 +176,19 @@ fn push_scope<'t>(
     push_by_fixed(alloc, source, scope, &fixed, found)
 }
 
+/// Appends the constants that the variables of some groups hide.
+fn push_hidden<'t>(
+    alloc: Global,
+    constants: &Constants<'t>,
+    groups: &'t [Group],
+    found: &mut Vec<Cause<'t>>,
+) -> Result<(), AllocError> {
+    for hidden in &hidden_by(alloc, constants, groups)? {
+        found.push(Cause::Hidden(*hidden))?;
+    }
+    Ok(())
+}
+
 /// Appends what is warned of in a node, by the values of constants.
 fn push_node<'t>(
     alloc: Global,
@@ -190,7 +210,11 @@ fn push_nodes<'t>(
     found: &mut Vec<Cause<'t>>,
 ) -> Result<(), AllocError> {
     let values = values_by_name(alloc, tree)?;
+    let constants = constants_of(alloc, tree)?;
     for node in &tree.nodes {
+        push_hidden(alloc, &constants, &node.inputs, found)?;
+        push_hidden(alloc, &constants, &node.outputs, found)?;
+        push_hidden(alloc, &constants, &node.locals, found)?;
         push_node(alloc, source, &values, node, found)?;
     }
     Ok(())
@@ -220,6 +244,8 @@ fn warning_of(alloc: Global, source: &str, cause: Cause<'_>) -> Result<Diagnosti
         Cause::Comparison(comparison) => constant_comparison(alloc, source, comparison),
         Cause::Clock(clock) => constant_clock(alloc, clock),
         Cause::Fault(fault) => constant_fault(alloc, source, fault),
+        Cause::Hidden(hidden) => hidden_constant(alloc, hidden),
+        Cause::Choice(choice) => same_branches(alloc, source, choice),
     }
 }
 
