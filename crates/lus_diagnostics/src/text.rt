@@ -165,7 +165,7 @@ pub fn push_report(
     }
     let lines = lines_of(alloc, source)?;
     for told in all.iter().take(MOST_TOLD) {
-        match told.site {
+        match &told.site {
             Site::Program(_) if !text.is_empty() => text.push_str("\n")?,
             _ => {}
         }
