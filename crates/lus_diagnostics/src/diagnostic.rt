@@ -1,5 +1,6 @@
 //! One thing that there is to say.
 
+ghost use Rattle.std.specs.Prelude.{◌≡◌};
 ghost use Rattle.lus_diagnostics.specs.Errors.{IsErrorOf};
 
 use lus_faults::{Edit, Finding, Position, Related, offset_of};
@@ -45,14 +46,33 @@ impl Code {
     }
 }
 
-/// Where something stands: bytes of a program, a position of scripts that aren't JSON, a place in their JSON by the keys and the numbers on
-/// the way to it, or a file as a whole.
+/// Where something stands.
 #[derive(Drop)]
 pub enum Site {
-    Program(Span),
+    /// So many bytes of a program from a position on, which so many bytes stand before, where that is known.
+    Program {
+        start: Position,
+        length: usize,
+        byte: Option<usize>,
+    },
+    /// A position of scripts that aren't JSON.
     Scripts(Position),
+    /// A place in the JSON of scripts, by the keys and the numbers on the way to it.
     Json(String),
+    /// A file as a whole.
     File,
+}
+
+impl Site {
+    /// A span of a program.
+    pub fn of(span: Span) -> Site {
+        let Place { byte, line, column } = span.start;
+        Site::Program {
+            start: Position { line, column },
+            length: span.length,
+            byte: Some(byte),
+        }
+    }
 }
 
 /// Something to be said: what it is; in a program the place of the refusal, or where the warning begins, in scripts 0 and 0; where it is
@@ -75,10 +95,7 @@ impl Diagnostic {
         ensures { result.code ≡ code }
     {
         let place = match &site {
-            Site::Program(span) => Position {
-                line: span.start.line,
-                column: span.start.column,
-            },
+            Site::Program { start, .. } => *start,
             _ => Position { line: 0, column: 0 },
         };
         Diagnostic {
@@ -93,23 +110,22 @@ impl Diagnostic {
         }
     }
 
-    /// The error of a source that is refused, with what was found of its case.
-    pub fn of_refusal(source: &str, refusal: Refusal, finding: Finding) -> Diagnostic
+    /// The error of a refusal, with what was found of its case.
+    pub fn of_refusal(refusal: Refusal, finding: Finding) -> Diagnostic
         ensures { IsErrorOf refusal result }
     {
-        let Position { line, column } = finding.position(&refusal);
-        let byte = offset_of(source, line, column);
-        let start = Place { byte, line, column };
+        let start = finding.position(&refusal);
         Diagnostic {
             code: Code::Error(refusal.number),
             place: Position {
                 line: refusal.line,
                 column: refusal.column,
             },
-            site: Site::Program(Span {
+            site: Site::Program {
                 start,
                 length: finding.length,
-            }),
+                byte: None,
+            },
             message: finding.sentence,
             related: finding.related,
             note: finding.note,
@@ -118,14 +134,27 @@ impl Diagnostic {
         }
     }
 
-    /// The bytes of the program where it is shown; of what is said of scripts none.
-    pub fn span(&self) -> Span {
-        match &self.site {
-            Site::Program(span) => *span,
-            _ => Span {
+    /// The span of a program where it is shown; of what is said of scripts nothing.
+    pub fn span(&self, source: &str) -> Span {
+        let Site::Program {
+            start,
+            length,
+            byte,
+        } = &self.site
+        else {
+            return Span {
                 start: Place::START,
                 length: 0,
-            },
+            };
+        };
+        let Position { line, column } = *start;
+        let byte = match byte {
+            Some(byte) => *byte,
+            None => offset_of(source, line, column),
+        };
+        Span {
+            start: Place { byte, line, column },
+            length: *length,
         }
     }
 }

@@ -100,8 +100,8 @@ fn push_members(
     text: &mut String,
     source: &str,
     told: &Diagnostic,
-    span: Span,
 ) -> Result<(), AllocError> {
+    let span = told.span(source);
     text.push_str(",")?;
     push_position(text, "position", told.place)?;
     text.push_str(",")?;
@@ -145,7 +145,7 @@ fn push_object(
     text.push_str(",\"message\":")?;
     push_string(alloc, text, told.message.as_str())?;
     match &told.site {
-        Site::Program(span) => push_members(alloc, text, source, told, *span)?,
+        Site::Program { .. } => push_members(alloc, text, source, told)?,
         Site::Scripts(at) => {
             text.push_str(",")?;
             push_range(text, *at, *at)?;

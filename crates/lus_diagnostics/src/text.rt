@@ -3,22 +3,22 @@
 use crate::citing::{push_cited, push_marked};
 use crate::diagnostic::{Diagnostic, Site};
 use lus_faults::{Edit, Lines, Position, bytes_at, lines_of};
-use lus_syntax::{Place, Span};
+use lus_syntax::Place;
 use std::alloc::{AllocError, Global};
 
 /// The most that are shown with their lines.
 const MOST_TOLD: usize = 20;
 
-/// Appends the line that a span begins on, with marks under it; nothing of an empty line.
+/// Appends a line, with marks under so many bytes from a column on; nothing of an empty line.
 fn push_line(
     alloc: Global,
     text: &mut String,
     lines: &Lines<'_>,
-    span: Span,
+    start: Position,
+    length: usize,
 ) -> Result<(), AllocError> {
-    let Place { line, column, .. } = span.start;
-    match lines.line(line) {
-        Some(shown) if !shown.is_empty() => push_marked(alloc, text, shown, column, span.length),
+    match lines.line(start.line) {
+        Some(line) if !line.is_empty() => push_marked(alloc, text, line, start.column, length),
         _ => Ok(()),
     }
 }
@@ -69,17 +69,18 @@ fn push_edit(
     Ok(())
 }
 
+/// Appends a position.
+fn push_position(text: &mut String, at: Position) -> Result<(), AllocError> {
+    let Position { line, column } = at;
+    write!(text, ":{line}:{column}")
+}
+
 /// Appends where something is, what it is, and its sentence.
 fn push_head(text: &mut String, name: &str, told: &Diagnostic) -> Result<(), AllocError> {
     text.push_str(name)?;
     match &told.site {
-        Site::Program(
-            Span {
-                start: Place { line, column, .. },
-                ..
-            },
-        )
-        | Site::Scripts(Position { line, column }) => write!(text, ":{line}:{column}")?,
+        Site::Program { start, .. } => push_position(text, *start)?,
+        Site::Scripts(at) => push_position(text, *at)?,
         Site::Json(key) => write!(text, ": {key}")?,
         Site::File => {}
     }
@@ -101,8 +102,8 @@ fn push_diagnostic(
     told: &Diagnostic,
 ) -> Result<(), AllocError> {
     push_head(text, name, told)?;
-    if let Site::Program(span) = &told.site {
-        push_line(alloc, text, lines, *span)?;
+    if let Site::Program { start, length, .. } = &told.site {
+        push_line(alloc, text, lines, *start, *length)?;
     }
     let cycle = &told.cycle;
     if !cycle.names().is_empty() {
@@ -112,7 +113,8 @@ fn push_diagnostic(
         let Place { line, column, .. } = related.span.start;
         let label = &related.label;
         write!(text, "{name}:{line}:{column}: note: {label}\n")?;
-        push_line(alloc, text, lines, related.span)?;
+        let length = related.span.length;
+        push_line(alloc, text, lines, Position { line, column }, length)?;
     }
     if let Some(note) = &told.note {
         write!(text, "{note}\n")?;
@@ -166,7 +168,7 @@ pub fn push_report(
     let lines = lines_of(alloc, source)?;
     for told in all.iter().take(MOST_TOLD) {
         match &told.site {
-            Site::Program(_) if !text.is_empty() => text.push_str("\n")?,
+            Site::Program { .. } if !text.is_empty() => text.push_str("\n")?,
             _ => {}
         }
         push_diagnostic(alloc, text, name, source, &lines, told)?;

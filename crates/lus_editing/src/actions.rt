@@ -97,7 +97,7 @@ fn actions_in(
     let mut text = String::from_str(alloc, "[")?;
     for told in document.diagnosis.told() {
         if let Some(edit) = &told.edit
-            && is_near(told.span(), edit, between)
+            && is_near(told.span(source), edit, between)
         {
             if text.len() > 1 {
                 text.push_str(",")?;

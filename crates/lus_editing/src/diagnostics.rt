@@ -90,19 +90,19 @@ fn push_head(text: &mut String, told: &Diagnostic) -> Result<(), AllocError> {
 fn push_diagnostic(
     alloc: Global,
     text: &mut String,
-    uri: &str,
+    sent: Sent<'_>,
     lines: &Lines<'_>,
     told: &Diagnostic,
     shows_related: bool,
 ) -> Result<(), AllocError> {
     push_head(text, told)?;
     text.push_str(",\"range\":")?;
-    push_span(text, lines, told.span())?;
+    push_span(text, lines, told.span(sent.text))?;
     text.push_str(",\"message\":")?;
     let message = message_of(told, shows_related)?;
     push_string(alloc, text, message.as_str())?;
     if let Code::Error(_) = told.code {
-        push_places(alloc, text, uri, lines, told)?;
+        push_places(alloc, text, sent.uri, lines, told)?;
     }
     text.push_str("}")
 }
@@ -132,7 +132,7 @@ pub(crate) fn published(
         if place > 0 {
             text.push_str(",")?;
         }
-        push_diagnostic(alloc, &mut text, sent.uri, &lines, told, shows_related)?;
+        push_diagnostic(alloc, &mut text, sent, &lines, told, shows_related)?;
     }
     text.push_str("]}}")?;
     Ok(text)

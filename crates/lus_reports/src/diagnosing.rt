@@ -107,7 +107,7 @@ fn add_others(
         };
         let finding = finding_in(alloc, rest, source, &refusal)?;
         rest.take(alloc, &refusal, Some(&finding))?;
-        others.push(Diagnostic::of_refusal(source, refusal, finding))?;
+        others.push(Diagnostic::of_refusal(refusal, finding))?;
     }
     Ok(())
 }
@@ -143,11 +143,11 @@ pub fn errors_of(
     if refusal.number == RefusalNumber::Memory {
         return Err(AllocError);
     }
-    let (source, (finding, mut errors)) = match text_of(bytes) {
-        Ok(source) => (source, findings_in(alloc, source, &refusal)?),
-        Err(_) => ("", (plain_finding(alloc, &refusal)?, Vec::new(alloc))),
+    let (finding, mut errors) = match text_of(bytes) {
+        Ok(source) => findings_in(alloc, source, &refusal)?,
+        Err(_) => (plain_finding(alloc, &refusal)?, Vec::new(alloc)),
     };
-    errors.insert(0, Diagnostic::of_refusal(source, refusal, finding))?;
+    errors.insert(0, Diagnostic::of_refusal(refusal, finding))?;
     Ok(errors)
 }
 

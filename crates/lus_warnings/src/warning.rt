@@ -24,7 +24,7 @@ pub(crate) fn warning(
     note: &str,
 ) -> Result<Diagnostic, AllocError> {
     let code = Code::Warning(kind.as_str());
-    let mut told = Diagnostic::new(alloc, code, Site::Program(span), sentence);
+    let mut told = Diagnostic::new(alloc, code, Site::of(span), sentence);
     told.note = Some(String::from_str(alloc, note)?);
     Ok(told)
 }
@@ -259,7 +259,7 @@ fn warnings_by(
     for cause in causes {
         warnings.push(warning_of(alloc, source, *cause)?)?;
     }
-    warnings.sort_by_key(|warning| warning.span().start.byte)?;
+    warnings.sort_by_key(|warning| warning.span(source).start.byte)?;
     Ok(warnings)
 }
 
