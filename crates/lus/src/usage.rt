@@ -7,17 +7,18 @@ use lus_devices::{Failure, Sink, write_all};
 
 const VERSION: &str = " 0.1.0\n";
 
-const EXPLAIN: &str = "usage: lus_explain [--json] [--warnings] PROGRAM [SCRIPTS]
+const EXPLAIN: &str = "usage: lus_explain [--json] [--no-warnings | --deny-warnings] PROGRAM [SCRIPTS]
        lus_explain --script NODE PROGRAM
        lus_explain --error NUMBER
 
-Says why a program, or its scripts, are rejected, and what to write; of an accepted program
-its types and nodes. It runs nothing.
+Says why a program, or its scripts, are rejected, and what to write; of an accepted program its
+types and nodes, and what its author can hardly have meant, which are warnings. It runs nothing.
 
-  --json         an object of JSON for each error, on a line of its own
-  --warnings     also what an accepted program's author can hardly have meant
-  --script NODE  scripts to begin from, for an instance of NODE
-  --error NUMBER what E1 to E11 and S1 to S6 mean, or `warnings`, and what to do
+  --json           an object of JSON for each error and each warning, on a line of its own
+  --no-warnings    no warnings
+  --deny-warnings  status 1 also where there is a warning
+  --script NODE    scripts to begin from, for an instance of NODE
+  --error NUMBER   what E1 to E11 and S1 to S6 mean, or `warnings`, and what to do
 
 Status: 0 accepted, 1 the program is rejected, 2 the scripts, 3 a file or the output fails, 4 out of memory.
 ";
