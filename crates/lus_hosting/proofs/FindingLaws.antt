@@ -282,11 +282,11 @@ module _ (p : Program) (accepted : IsAccepted p) (f : ℕ) (begun : Option Bytes
     front_is : IsFront (names_of p) [] [] lines gs left_is.0
     front_is = reads (names_of p) (names_plain p accepted) [] [] tt lines gs left_is.0 audited.told readable (sym left_is.2)
 
-  -- the end is behind the lines that were read
-  pub audited_all : (kind : Found) (later : Option Bytes) (line right : Text) (new : Instances)
+  -- the end is behind the lines that were read, which were seen
+  pub audited_all : (Seen : List LogLine → Type 0) → Seen lines → (kind : Found) (later : Option Bytes) (line right : Text) (new : Instances)
       → FindsLine kind p f (entries_in lines) mid later line right new → kind ≡ founds.Over → (report : Text) → report ≡ codes "entries " ++ decimal entries ++ codes " lawful\n"
-      → HasAuditedLog p f true begun report × FindsInLog p f true begun report
-  audited_all kind later line right new finds kind_is report is =
+      → HasAuditedLog p f Seen true begun report × FindsInLog p f true begun report
+  audited_all Seen seen kind later line right new finds kind_is report is =
       let found = finds_as p f begun mid instances turn entries audited kind later line right new finds founds.Over kind_is in
       let last : IsLast [] mid later = found.0 in
       let reported : report ≡ lawful_log_text (entries_in lines) = is ∙ ap (λ n. codes "entries " ++ decimal n ++ codes " lawful\n") audited.entered in (
@@ -298,6 +298,7 @@ module _ (p : Program) (accepted : IsAccepted p) (f : ℕ) (begun : Option Bytes
               ∙ ap (λ t. with_front t later) (append-nil (log_text (names_of p) lines));
           over = last.over;
           lawful = lawful;
+          seen = seen;
           reported = reported;
         },
         λ gs readable spelled.
@@ -307,10 +308,10 @@ module _ (p : Program) (accepted : IsAccepted p) (f : ℕ) (begun : Option Bytes
       )
 
   -- a line with a wrong reply is
-  pub audited_wrong : (kind : Found) (later : Option Bytes) (line right : Text) (new : Instances)
+  pub audited_wrong : (Seen : List LogLine → Type 0) (kind : Found) (later : Option Bytes) (line right : Text) (new : Instances)
       → FindsLine kind p f (entries_in lines) mid later line right new → kind ≡ founds.Wrong → (report : Text) → report ≡ wrong_log_text (turn + 1) line right
-      → HasAuditedLog p f false begun report × FindsInLog p f false begun report
-  audited_wrong kind later line right new finds kind_is report is =
+      → HasAuditedLog p f Seen false begun report × FindsInLog p f false begun report
+  audited_wrong Seen kind later line right new finds kind_is report is =
       let left : IsLineLeft founds.Wrong p f (entries_in lines) mid later line right new =
       finds_as p f begun mid instances turn entries audited kind later line right new finds founds.Wrong kind_is in
       let found = left.is in

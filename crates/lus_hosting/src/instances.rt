@@ -1,6 +1,6 @@
 //! Instances by their names.
 
-ghost use Rattle.std.specs.Prelude.{◌≡◌, ◌++◌, ◌<◌, ◌∷◌, [], IfOk, List, OnOk, length, string_bytes};
+ghost use Rattle.std.specs.Prelude.{◌≡◌, ◌++◌, ◌<◌, ◌∷◌, [], IfOk, IfSome, List, OnOk, Some, length, string_bytes};
 ghost use Rattle.std.specs.Arc.{arc_value};
 ghost use Rattle.indexmap.specs.IndexMap.{get_by_text};
 ghost use Rattle.lus_live_instance.specs.MachineSpecs.CodeSpecs.Codes.{program_of};
@@ -10,18 +10,43 @@ ghost use Rattle.lus_hosting.specs.Logs.{Logged};
 
 use crate::host::Host;
 use crate::hosted::{Hosted, call, replay};
+use crate::told::Told;
 use indexmap::IndexMap;
 use lus_live_instance::new_instance;
 use lus_play::PlayError;
 use lus_replay::Verdict;
 use lus_requests::{Entry, Request};
 use lus_values::Memory;
+use std::alloc::Global;
 use std::collections::hash_map::RandomState;
 
-/// Instances by their names, which strangers choose: the hash function has keys of its own.
+/// Instances by their names, which strangers choose: the hash function has keys of its own. What was told last is kept where it is to be.
 #[derive(Drop)]
 pub(crate) struct Instances {
     pub(crate) by_name: IndexMap<String, Hosted, RandomState>,
+    recalls: bool,
+    pub(crate) told: Option<Told>,
+}
+
+/// No instances yet. The entries that are replayed are told one by one, or not.
+pub(crate) fn no_instances(alloc: Global, keys: RandomState, recalls: bool) -> Instances
+    ensures { result.by_name.entries ≡ [] }
+{
+    Instances {
+        by_name: IndexMap::with_hasher(alloc, keys),
+        recalls,
+        told: None,
+    }
+}
+
+/// What is told of the instance of a name.
+fn told_of(alloc: Global, name: &str, last: Option<Entry>) -> Option<Told>
+    ensures { IfSome result (λ t. (string_bytes t.instance ≡ name.now) × (last ≡ Some t.entry)) }
+{
+    Some(Told {
+        entry: last?,
+        instance: String::from_str(alloc, name).ok()?,
+    })
 }
 
 /// Makes an instance of this name, where there is none.
@@ -36,8 +61,11 @@ fn open(host: Host<'_>, instances: &mut Instances, name: &str) -> Result<(), Mem
     let key = String::from_str(host.alloc, name)?;
     let instance = new_instance(host.alloc, host.program, host.node)?;
     let hosted = Hosted {
+        alloc: host.alloc,
         instance,
         entries: 0,
+        recalls: instances.recalls,
+        last: None,
     };
     instances.by_name.insert(key, hosted)?;
     Ok(())
@@ -61,7 +89,7 @@ pub(crate) fn call_on(
     }
 }
 
-/// Replays an entry on the instance of a name. Where its reply isn't the right one, the line that would be right is in `right`.
+/// Replays an entry on the instance of a name, and tells it. Where its reply isn't the right one, the line that would be right is in `right`.
 pub(crate) fn replay_on(
     host: Host<'_>,
     instances: &mut Instances,
@@ -75,8 +103,13 @@ pub(crate) fn replay_on(
         (string_bytes right.new) v instances.new) }
 {
     open(host, instances, name)?;
+    let recalls = instances.recalls;
     match instances.by_name.get_mut(name) {
-        Some(hosted) => replay(hosted, host.alloc, host.program.names(), entry, right),
+        Some(hosted) => {
+            let (verdict, last) = replay(hosted, host.program.names(), recalls, entry, right)?;
+            instances.told = told_of(host.alloc, name, last);
+            Ok(verdict)
+        }
         None => Err(PlayError::Memory),
     }
 }

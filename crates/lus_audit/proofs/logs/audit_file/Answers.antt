@@ -16,42 +16,6 @@ returns-in_default-clause-fault g c =
     let none : node_named (program_of c.in_ok-program.program) c.args.task.node.now ≡ None = sym c.node.ensures ∙ ap (option_map _) c.in_default.is in
     (refl, (program_of c.in_ok-program.program, c.in_ok-program.ensures.accepted, none))
 
-pub returns-in_default-open-clause-fault : goal.returns-in_default-open-clause-fault
-returns-in_default-open-clause-fault g c = inr (program_of c.in_ok-program.program, c.in_ok-program.ensures.accepted)
-
-pub audit_log-requires : goal.audit_log-requires
-audit_log-requires g c =
-    let same : program_of c.in_ok-program.program ≡ program_of (arc_value c.in-Ok.program) = ap program_of (sym c.in-Ok.ensures.ok) in
-    let named : node_named (program_of c.in_ok-program.program) c.args.task.node.now ≡ Some c.in-Some.node.0 =
-    sym c.node.ensures ∙ ap (option_map _) c.in-Some.is in
-    named_within (program_of (arc_value c.in-Ok.program)) c.args.task.node.now c.in-Some.node.0
-    (subst (λ p. node_named p c.args.task.node.now ≡ Some c.in-Some.node.0) same named)
-
-pub returns-clause-fault : goal.returns-clause-fault
-returns-clause-fault g c =
-    let read_fails = ReadFails g.row.D-File.Denot g.D.File.Source.left g.D.File.Source.failures in
-    let file = g.D.Folder.known c.args.folder.now c.args.task.program.now in
-    let log = g.D.Folder.known c.args.folder.now c.args.task.log.now in
-    let same : program_of c.in_ok-program.program ≡ program_of (arc_value c.in-Ok.program) = ap program_of (sym c.in-Ok.ensures.ok) in
-    let accepted = subst (IsOfFile file) same c.in_ok-program.ensures.accepted in
-    subst (LogAuditFails read_fails file log c.args.task.node.now) (sym c.fault_of.ensures)
-    (log_fails read_fails file log c.args.task.node.now c.in-Err.error (program_of (arc_value c.in-Ok.program)) _ _ accepted c.in-Ok-open.ensures.opened
-    c.new-2.ensures c.in-Err.ensures.blames)
-
-pub returns-in-Ok-audit_log-clause-audited : goal.returns-in-Ok-audit_log-clause-audited
-returns-in-Ok-audit_log-clause-audited g c =
-    let file = g.D.Folder.known c.args.folder.now c.args.task.program.now in
-    let log = g.D.Folder.known c.args.folder.now c.args.task.log.now in
-    let p = program_of (arc_value c.in-Ok.program) in
-    let same : program_of c.in_ok-program.program ≡ program_of (arc_value c.in-Ok.program) = ap program_of (sym c.in-Ok.ensures.ok) in
-    let named : node_named (program_of c.in_ok-program.program) c.args.task.node.now ≡ Some c.in-Some.node.0 =
-    sym c.node.ensures ∙ ap (option_map _) c.in-Some.is in
-    let report = c.in-Ok-audit_log.report in
-    record {
-      program = p;
-      accepted = subst (IsOfFile file) same c.in_ok-program.ensures.accepted;
-      node = c.in-Some.node.0;
-      named = subst (λ q. node_named q c.args.task.node.now ≡ Some c.in-Some.node.0) same named;
-      found = file_so (λ o. IsLogFound p c.in-Some.node.0 report.is_lawful o report.text.items) log _ _ c.in-Ok-open.ensures.opened c.new-2.ensures
-          (c.in-Ok-audit_log.ensures.sound, c.in-Ok-audit_log.ensures.complete);
-    }
+-- the node is one of the program's
+within : (g : goal.Types) (c : goal.Joined-program) → goal.explain-requires
+within = ?

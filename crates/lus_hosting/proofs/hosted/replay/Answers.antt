@@ -1,0 +1,8 @@
+-- The instance keeps to its node: nothing is kept before the entry.
+use Rattle.lus_hosting.proofs.hosted.replay.Goals as goal
+
+pub returns-in_err-verdict-clause-live : goal.returns-in_err-verdict-clause-live
+returns-in_err-verdict-clause-live c = λ p f live. (c.replay_line.ensures.same p f (live, tt)).0
+
+pub returns-clause-live : goal.returns-clause-live
+returns-clause-live c = λ p f live. (c.replay_line.ensures.same p f (live, tt)).0
