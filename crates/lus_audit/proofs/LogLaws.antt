@@ -4,7 +4,9 @@ use Rattle.std.specs.Str.{bytes_eq}
 use Rattle.std.proofs.lemmas.Slice.Eq.{bytes_eq-Decides}
 use Rattle.std.specs.Map.{lookup}
 use Rattle.std.specs.Prelude.{String}
-use Rattle.indexmap.specs.IndexMap.{IndexMap, get_by_text}
+use Rattle.std.specs.HashMap.{HashMap}
+use Rattle.std.proofs.lemmas.Bool.{true≢false}
+use Rattle.indexmap.specs.IndexMap.{get_by_text}
 use Rattle.lus_values.specs.Names.{Names, Text}
 use Rattle.lus_program.specs.Programs.{Program}
 use Rattle.lus_printable.specs.Printable.{printable}
@@ -16,10 +18,12 @@ use Rattle.lus_replay.specs.Replays.{entry_said}
 use Rattle.lus_cli.specs.MachineSpecs.Constructors.{names_of}
 use Rattle.lus_cli.specs.MachineSpecs.HistorySpecs.Pasts.{lineage}
 use Rattle.lus_windows.specs.Reasons.{Explains, ExplainsNext, TellsEntry}
-use Rattle.lus_windows.specs.Windows.{have_slots}
+use Rattle.lus_windows.specs.Windows.{entry_by, have_slots}
 use Rattle.lus_windows.specs.declared.reasons.Explainer.{Explainer}
 use Rattle.lus_hosting.specs.Audits.{LogEntry, LogLine, LogNote, entries_in}
+use Rattle.lus_hosting.specs.LastEntries.{IsEntryOf}
 use Rattle.lus_hosting.specs.Logs.{Logged, entries_of}
+use Rattle.lus_hosting.specs.declared.named_entry.NamedEntry.{NamedEntry}
 use Rattle.lus_hosting.proofs.AuditLaws.{behind_more}
 use Rattle.lus_hosting.proofs.HostLaws.{entries_other, entries_own}
 use Rattle.lus_audit.specs.LogReasons.{Follows, HasExplained, IsFollowed, IsRefused, TellsLog, begins, enters, history_in, notes}
@@ -39,7 +43,7 @@ history_note : (name : Text) (lines : List LogLine) (t : Text) → history_in na
 history_note name lines t = ap (entries_of name) (behind_more [] lines (LogNote t) ∙ append-nil (entries_in lines))
 
 -- none is named where none is
-pub none_named : {Y S : Type 0} (m : IndexMap (String Y) Explainer S) → m.entries ≡ [] → (name : Text) → get_by_text m name ≡ None
+pub none_named : {Y S : Type 0} (m : HashMap (String Y) Explainer S) → m.entries ≡ [] → (name : Text) → get_by_text m name ≡ None
 none_named m bare name = ap (lookup (λ k. bytes_eq name (string_bytes k))) bare
 
 module _ (p : Program) (f : ℕ) where
@@ -102,6 +106,10 @@ module _ (p : Program) (f : ℕ) where
   tells_nothing names instance number h request Done text accepted = refl
 
   module _ (lines : List LogLine) (x : Explanations) (has : HasExplained p f lines x) where
+    -- however many lines are counted
+    pub explained_lines : (n : ℕ) → HasExplained p f lines (record x { lines = n })
+    explained_lines n = record { followed = has.followed; unfollowed = has.unfollowed; tells = has.tells }
+
     pub explained_note : (t : Text) (n : ℕ) → HasExplained p f (lines ++ LogNote t ∷ []) (record x { lines = n })
     explained_note t n = record {
       followed = follows_note lines t (get_by_text x.followed) has.followed;
@@ -126,11 +134,11 @@ module _ (p : Program) (f : ℕ) where
       followed = subst (λ m. Follows p f (lines ++ LogEntry l ∷ []) (get_by_text m)) (sym same)
           (follows_on lines l (get_by_text x.followed) none has.followed);
       unfollowed = named;
-      tells = λ whole. absurd (subst IsTrue partial whole);
+      tells = λ whole. absurd (true≢false (sym whole ∙ partial));
     }
 
     -- an entry of an instance that is followed
-    pub explained_entry : (l : Logged) (y : Explanations) (e : Explainer)
+    explained_entry : (l : Logged) (y : Explanations) (e : Explainer)
         → ((name : Text) → get_by_text y.followed name ≡ cond (bytes_eq l.instance name) (Some e) (get_by_text x.followed name))
         → y.unfollowed ≡ x.unfollowed → y.is_whole ≡ x.is_whole
         → ExplainsNext p f (names_of p) (printable l.instance) (length lines + 1) (history_in l.instance lines) (entry_said l.said) (string_bytes x.text)
@@ -140,5 +148,32 @@ module _ (p : Program) (f : ℕ) where
       followed = follows_entry lines l (get_by_text x.followed) (get_by_text y.followed) (Some e) updates
           (subst (λ h. Explains p f (printable l.instance) h e) (sym (history_own lines l)) next.explains) has.followed;
       unfollowed = subst (λ m. Follows p f [] (get_by_text m)) (sym same) has.unfollowed;
-      tells = λ is. enters lines l (string_bytes x.text) (string_bytes y.text) (has.tells (subst IsTrue whole is)) next.tells;
+      tells = λ is. enters lines l (string_bytes x.text) (string_bytes y.text) (has.tells (sym whole ∙ is)) next.tells;
     }
+
+    -- the same by what was explained, of the instance of this key
+    pub explained_next : (q : Program) (names : Names) (y : Explanations) (l : Logged) (named : NamedEntry) (line : ℕ) (key : Text) (e e' : Explainer) → q ≡ p
+        → names ≡ names_of p → line ≡ length lines + 1 → IsEntryOf (Some named) l → key ≡ string_bytes named.instance → Some e ≡ get_by_text x.followed key
+        → ((name : Text) → get_by_text y.followed name ≡ cond (bytes_eq key name) (Some e') (get_by_text x.followed name))
+        → y.unfollowed ≡ x.unfollowed → y.is_whole ≡ x.is_whole
+        → ((g : ℕ) (instance : Text) (h : List Entry) (c : ℕ) → Explains q g instance h e
+        → ExplainsNext q g names instance line h (entry_by c named.entry.request named.entry.reply) (string_bytes x.text) (string_bytes y.text) e')
+        → HasExplained p f (lines ++ LogEntry l ∷ []) y
+    explained_next q names y l named line key e e' same called number is key_is found updates unfollowed whole explains =
+        let instance = printable l.instance in
+        let h = history_in l.instance lines in
+        let own : key ≡ l.instance = key_is ∙ is.0 in
+        let there : get_by_text x.followed l.instance ≡ Some e = sym (found ∙ ap (get_by_text x.followed) own) in
+        let before : Explains p f instance h e = subst (IsFollowed p f l.instance h) there (has.followed l.instance) in
+        let entry : entry_by 0 named.entry.request named.entry.reply ≡ entry_said l.said = ap (λ (d : Entry). entry_by 0 d.request d.reply) is.1 in
+        let next = explains f instance h 0 (subst (λ (r : Program). Explains r f instance h e) (sym same) before) in
+        let of_p = subst (λ (r : Program). ExplainsNext r f names instance line h (entry_by 0 named.entry.request named.entry.reply) (string_bytes x.text)
+        (string_bytes y.text) e') same next in
+        let by_names = subst (λ n. ExplainsNext p f n instance line h (entry_by 0 named.entry.request named.entry.reply) (string_bytes x.text)
+        (string_bytes y.text) e') called of_p in
+        let at_line = subst (λ n. ExplainsNext p f (names_of p) instance n h (entry_by 0 named.entry.request named.entry.reply) (string_bytes x.text)
+        (string_bytes y.text) e') number by_names in
+        let of_entry = subst (λ d. ExplainsNext p f (names_of p) instance (length lines + 1) h d (string_bytes x.text) (string_bytes y.text) e') entry at_line in
+        explained_entry l y e'
+        (subst (λ i. (name : Text) → get_by_text y.followed name ≡ cond (bytes_eq i name) (Some e') (get_by_text x.followed name)) own updates)
+        unfollowed whole of_entry

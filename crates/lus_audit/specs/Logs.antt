@@ -1,5 +1,5 @@
 -- Audits of a log of many instances: what the words ask for, and how they end.
-use Rattle.std.specs.Prelude.{◌≡◌, ◌⊎◌, ◌++◌, ℕ, Bool, false, List, [], Option, Some, None, Result, codes, ⊤}
+use Rattle.std.specs.Prelude.{◌≡◌, ◌⊎◌, ◌++◌, ℕ, Bool, List, Option, Some, None, Result, codes, ⊤}
 use Rattle.clap.specs.Words.{App, Row, first_of}
 use Rattle.lus_program.specs.Programs.{Program}
 use Rattle.lus_devices.specs.Devices.{Bytes}
@@ -55,12 +55,12 @@ task_seen t = record { is_why = t.is_why; program = t.program.now; node = t.node
 abbrev pub IsLogFound : Program → ℕ → (List LogLine → Type 0) → Bool → Text → Bytes → Type 0
 IsLogFound p f Seen is_lawful report bytes = HasAuditedLog p f Seen is_lawful (Some bytes) report × FindsInLog p f is_lawful (Some bytes) report
 
--- it is reported, with the reasons of a lawful log's refusals behind it where they are asked
+-- It is reported, with the reasons of the refusals behind it where they are asked: those up to the first line that isn't right, with the one
+-- of the right reply in its place.
 pub record IsLogReported (p : Program) (f : ℕ) (is_why is_lawful : Bool) (report : Text) (bytes : Bytes) : Type 0 where
   pub found : Text
   pub reasons : Text
   pub is : IsLogFound p f (AreLogReasons is_why p f reasons) is_lawful found bytes
-  pub wrong : is_lawful ≡ false → reasons ≡ []
   pub reported : report ≡ found ++ reasons
 
 -- the log of a file is audited by the node of this name of another's program

@@ -1,4 +1,4 @@
-//! Why requests of a lawful log were refused.
+//! Why requests of a log were refused.
 
 ghost use Rattle.std.specs.Prelude.{◌≡◌, ◌+◌, ◌<◌, ◌++◌, ◌∷◌, [], ℕ, IfOk, List, None, OnOk, Some, length, string_bytes, ⊤};
 ghost use Rattle.std.specs.Bool.{Decides};
@@ -6,7 +6,7 @@ ghost use Rattle.indexmap.specs.IndexMap.{get_by_text};
 ghost use Rattle.lus_cli.specs.CodeSpecs.Codes.{program_of};
 ghost use Rattle.lus_hosting.specs.Audits.{LogEntry, LogLine};
 ghost use Rattle.lus_hosting.specs.Logs.{Logged};
-ghost use Rattle.lus_hosting.specs.Told.{IsTold};
+ghost use Rattle.lus_hosting.specs.LastEntries.{IsEntryOf};
 ghost use Rattle.lus_printable.specs.Printable.{printable};
 ghost use Rattle.lus_program.specs.Programs.{Program as PlainProgram};
 ghost use Rattle.lus_windows.specs.Reasons.{Explains};
@@ -15,7 +15,7 @@ ghost use Rattle.lus_audit.specs.LogReasons.{Follows, HasExplained, IsRefused};
 use indexmap::IndexMap;
 use lus_hosting::lus_lawful::AuditError;
 use lus_hosting::lus_live_instance::lus_machine::{NodeId, Program};
-use lus_hosting::{LogObserver, Told};
+use lus_hosting::{LogObserver, NamedEntry};
 use lus_printable::printable;
 use lus_requests::{Entry, Reply};
 use lus_values::Memory;
@@ -53,6 +53,27 @@ fn explainer_of(
     Explainer::new(alloc, program.source(), node.0, shown.as_str())
 }
 
+/// Names an instance, if it isn't named yet.
+fn name_instance(
+    explainers: &mut Explainers,
+    alloc: Global,
+    program: &Program,
+    node: NodeId,
+    instance: &str,
+) -> Result<(), Memory>
+    requires { node.0 < length (program_of program.now).nodes }
+    ensures { let p = program_of program.now in
+        OnOk result (Follows p node.0 [] (get_by_text explainers.old) → Follows p node.0 [] (get_by_text explainers.new)) }
+{
+    if explainers.contains_key(instance) {
+        return Ok(());
+    }
+    let explainer = explainer_of(alloc, program, node, instance)?;
+    let key = String::from_str(alloc, instance)?;
+    explainers.insert(key, explainer)?;
+    Ok(())
+}
+
 fn is_refused(reply: &Reply) -> bool
     ensures { Decides result (IsRefused reply.now) }
 {
@@ -79,24 +100,40 @@ impl Explanations {
         alloc: Global,
         program: &Program,
         node: NodeId,
-        told: &Told,
+        named: &NamedEntry,
     ) -> Result<(), Memory>
         requires { node.0 < length (program_of program.now).nodes }
         ensures { let p = program_of program.now in
-            OnOk result ((lines : List LogLine) (l : Logged) → IsTold (Some told.now) l → get_by_text self.old.followed l.instance ≡ None
+            OnOk result ((lines : List LogLine) (l : Logged) → IsEntryOf (Some named.now) l → get_by_text self.old.followed l.instance ≡ None
             → HasExplained p node.0 lines self.old → HasExplained p node.0 (lines ++ LogEntry l ∷ []) self.new) }
     {
-        if !is_refused(&told.entry.reply) {
+        if !is_refused(&named.entry.reply) {
             return Ok(());
         }
         self.is_whole = false;
-        let instance = told.instance.as_str();
-        if !self.unfollowed.contains_key(instance) {
-            let explainer = explainer_of(alloc, program, node, instance)?;
-            let key = String::from_str(alloc, instance)?;
-            self.unfollowed.insert(key, explainer)?;
+        let unfollowed = &mut self.unfollowed;
+        name_instance(unfollowed, alloc, program, node, named.instance.as_str())
+    }
+
+    /// Goes on behind an entry of an instance that is followed, on the line of this number.
+    fn follow(
+        &mut self,
+        alloc: Global,
+        program: &Program,
+        line: u64,
+        named: &NamedEntry,
+    ) -> Result<(), Memory>
+        ensures { let p = program_of program.now in
+            OnOk result ((f : ℕ) (lines : List LogLine) (l : Logged) → line ≡ length lines + 1 → IsEntryOf (Some named.now) l
+            → HasExplained p f lines self.old → HasExplained p f (lines ++ LogEntry l ∷ []) self.new) }
+    {
+        let (source, names) = (program.source(), program.names());
+        let Entry { request, reply, .. } = &named.entry;
+        let text = &mut self.text;
+        match self.followed.get_mut(named.instance.as_str()) {
+            Some(explainer) => explainer.explain(alloc, source, names, line, request, reply, text),
+            None => Err(Memory),
         }
-        Ok(())
     }
 
     /// Goes on behind an entry, on the line of this number.
@@ -106,20 +143,18 @@ impl Explanations {
         program: &Program,
         node: NodeId,
         line: u64,
-        told: &Told,
+        named: &NamedEntry,
     ) -> Result<(), Memory>
         requires { node.0 < length (program_of program.now).nodes }
         ensures { let p = program_of program.now in
-            OnOk result ((lines : List LogLine) (l : Logged) → line ≡ length lines + 1 → IsTold (Some told.now) l
+            OnOk result ((lines : List LogLine) (l : Logged) → line ≡ length lines + 1 → IsEntryOf (Some named.now) l
             → HasExplained p node.0 lines self.old → HasExplained p node.0 (lines ++ LogEntry l ∷ []) self.new) }
     {
-        let Some(explainer) = self.followed.get_mut(told.instance.as_str()) else {
-            return self.pass_over(alloc, program, node, told);
-        };
-        let (source, names) = (program.source(), program.names());
-        let Entry { request, reply, .. } = &told.entry;
-        let text = &mut self.text;
-        explainer.explain(alloc, source, names, line, request, reply, text)
+        if self.followed.contains_key(named.instance.as_str()) {
+            self.follow(alloc, program, line, named)
+        } else {
+            self.pass_over(alloc, program, node, named)
+        }
     }
 }
 
@@ -136,13 +171,13 @@ impl LogObserver for Explanations {
         program: &Program,
         node: NodeId,
         line: u64,
-        told: Option<&Told>,
+        entry: Option<&NamedEntry>,
     ) -> Result<(), AuditError> {
-        let Some(told) = told else {
+        let Some(named) = entry else {
             return Err(AuditError::Memory);
         };
         self.lines = line;
-        self.go_on(alloc, program, node, line, told)?;
+        self.go_on(alloc, program, node, line, named)?;
         Ok(())
     }
 

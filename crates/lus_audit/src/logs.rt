@@ -1,6 +1,6 @@
 //! The command line with `--many` over a folder.
 
-ghost use Rattle.std.specs.Prelude.{◌≡◌, ◌++◌, ◌<◌, [], IfErr, IfOk, Some, if◌then◌else◌, length, map, string_bytes, true};
+ghost use Rattle.std.specs.Prelude.{◌≡◌, ◌++◌, ◌<◌, IfErr, IfOk, Some, length, map, string_bytes, true};
 ghost use Rattle.std.specs.Arc.{arc_value};
 ghost use Rattle.indexmap.specs.IndexMap.{get_by_text};
 ghost use Rattle.lus_cli.specs.Changes.{change};
@@ -76,14 +76,14 @@ fn audit_following<D: Folder>(
     Ok((report, explanations))
 }
 
-/// The report, with the reasons behind it where the log is lawful.
-fn with_reasons(report: LogReport, reasons: &str) -> Result<LogReport, Fault>
-    ensures ok { IfOk result (λ r. (r.is_lawful ≡ report.is_lawful)
-        × (r.text.items ≡ report.text.items ++ (if report.is_lawful then reasons.now else []))) }
+/// The report, with the reasons behind it.
+fn with_reasons(report: LogReport, explanations: &Explanations) -> Result<LogReport, Fault>
+    ensures ok { IfOk result (λ r. (r.is_lawful ≡ report.is_lawful) × (r.text.items ≡ report.text.items ++ string_bytes explanations.now.text)) }
     ensures memory { IfErr result (λ f. f ≡ OutOfMemory) }
 {
     let mut report = report;
-    if report.is_lawful && report.text.extend_from_slice(reasons.as_bytes()).is_err() {
+    let reasons = explanations.text.as_bytes();
+    if report.text.extend_from_slice(reasons).is_err() {
         return Err(Fault::Memory);
     }
     Ok(report)
@@ -106,15 +106,37 @@ fn explain<D: Folder>(
 {
     let none = IndexMap::with_hasher(alloc, keys);
     let (report, first) = audit_following(alloc, folder, program, node, log, keys, none)?;
-    if !report.is_lawful || first.is_whole {
-        return with_reasons(report, &first.text);
+    if first.is_whole {
+        return with_reasons(report, &first);
     }
     let (lines, followed) = (first.lines, first.unfollowed);
-    let (report, second) = audit_following(alloc, folder, program, node, log, keys, followed)?;
+    let (again, second) = audit_following(alloc, folder, program, node, log, keys, followed)?;
     if second.is_whole && lines <= second.lines {
-        with_reasons(report, &second.text)
+        with_reasons(again, &second)
     } else {
         Err(Fault::File)
+    }
+}
+
+/// Audits the log of a file, with the reasons of its refusals where they are asked.
+fn audit_node<D: Folder>(
+    alloc: Global,
+    folder: &D,
+    program: &Arc<Program>,
+    node: NodeId,
+    log: &str,
+    is_why: bool,
+    keys: RandomState,
+) -> Result<LogReport, Fault>
+    requires { node.0 < length (program_of (arc_value program.now)).nodes }
+    ensures audited { IfOk result (λ r. WithFile (D.known folder.now log.now)
+        (IsLogReported (program_of (arc_value program.now)) node.0 is_why r.is_lawful r.text.items)) }
+    ensures fault { IfErr result (LogIsLost (program_of (arc_value program.now)) (D.known folder.now log.now)) }
+{
+    if is_why {
+        explain(alloc, folder, program, node, log, keys)
+    } else {
+        audit_once(alloc, folder, program, node, log, keys, &mut Unobserved)
     }
 }
 
@@ -137,12 +159,9 @@ fn audit_file<D: Folder>(
     let Ok(program) = Arc::new(alloc, program) else {
         return Err(Fault::Memory);
     };
-    if task.is_why {
-        explain(alloc, folder, &program, node, task.log, keys)
-    } else {
-        let log = task.log;
-        audit_once(alloc, folder, &program, node, log, keys, &mut Unobserved)
-    }
+    audit_node(
+        alloc, folder, &program, node, task.log, task.is_why, keys,
+    )
 }
 
 /// Whether the log that the words name is lawful. What is reported of it is written.
@@ -165,8 +184,8 @@ fn perform<D: Folder, O: Sink>(
     }
 }
 
-/// Audits the log that the words name among the files of a folder, says why its requests were refused where that is asked, and gives the status of the process: 0 where it is lawful, 2 where a line
-/// isn't the right one, else that of the fault. `keys` are of the hash function of instances' names.
+/// Audits the log that the words name among the files of a folder, says why its requests were refused where that is asked, and gives the
+/// status of the process: 0 where it is lawful, 2 where a line isn't the right one, else that of the fault. `keys` are of the hash function of instances' names.
 pub fn command_many<D: Folder, O: Sink, F: Sink>(
     alloc: Global,
     folder: &D,

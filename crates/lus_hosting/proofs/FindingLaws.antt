@@ -22,7 +22,7 @@ use Rattle.lus_live_instance.specs.MachineSpecs.Acceptance.{IsAccepted}
 use Rattle.lus_live_instance.specs.MachineSpecs.Constructors.{names_of}
 use Rattle.lus_live_instance.specs.MachineSpecs.HistorySpecs.Pasts.{beginning}
 use Rattle.indexmap.specs.IndexMap.{get_by_text}
-use Rattle.lus_hosting.specs.Audits.{AreLawful, AreReadable, AsksLogged, BeginsLogged, FindsInLog, FindsLine, HasAuditedLog, IsLineLeft, IsNoLog, IsNoneLeft, IsReadableLine, IsToFind, IsWrongLog, LogEntry, LogLine, LogNote, answered, entries_in, entry_in, lawful_log_text, line_in, lines_text, log_behind, log_text, wrong_log_text}
+use Rattle.lus_hosting.specs.Audits.{AreLawful, AreReadable, AsksLogged, BeginsLogged, FindsInLog, FindsLine, HasAuditedLog, IsLineLeft, IsNoLog, IsNoneLeft, IsReadableLine, IsToFind, IsWrongLog, LogEntry, LogLine, LogNote, SeesMore, answered, entries_in, entry_in, lawful_log_text, line_in, lines_text, log_behind, log_text, wrong_log_text}
 use Rattle.lus_hosting.specs.Hosts.{logged}
 use Rattle.lus_hosting.specs.Logs.{IsWord, Logged, entries_of, is_of, logged_line, next_of}
 use Rattle.lus_hosting.specs.declared.auditing.Found.{Found}
@@ -307,11 +307,12 @@ module _ (p : Program) (accepted : IsAccepted p) (f : ℕ) (begun : Option Bytes
             finds_lawful p accepted f lines gs x.0 (front_is gs readable spelled) lawful end.1 report reported),
       )
 
-  -- a line with a wrong reply is
+  -- a line with a wrong reply is, in whose place the right entry was seen
   pub audited_wrong : (Seen : List LogLine → Type 0) (kind : Found) (later : Option Bytes) (line right : Text) (new : Instances)
-      → FindsLine kind p f (entries_in lines) mid later line right new → kind ≡ founds.Wrong → (report : Text) → report ≡ wrong_log_text (turn + 1) line right
+      → FindsLine kind p f (entries_in lines) mid later line right new → kind ≡ founds.Wrong → SeesMore founds.Wrong new.last Seen lines
+      → (report : Text) → report ≡ wrong_log_text (turn + 1) line right
       → HasAuditedLog p f Seen false begun report × FindsInLog p f false begun report
-  audited_wrong Seen kind later line right new finds kind_is report is =
+  audited_wrong Seen kind later line right new finds kind_is sees report is =
       let left : IsLineLeft founds.Wrong p f (entries_in lines) mid later line right new =
       finds_as p f begun mid instances turn entries audited kind later line right new finds founds.Wrong kind_is in
       let found = left.is in
@@ -330,6 +331,7 @@ module _ (p : Program) (accepted : IsAccepted p) (f : ℕ) (begun : Option Bytes
           asked = found.3;
           lawful = more;
           differs = differs;
+          seen = sees w found.7;
           reported = reported;
         },
         λ gs readable spelled.

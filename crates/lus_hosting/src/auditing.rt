@@ -6,8 +6,9 @@ ghost use Rattle.std.specs.Arc.{arc_value};
 ghost use Rattle.lus_lawful.specs.Errors.{BlamesIf, IsOutside};
 ghost use Rattle.lus_live_instance.specs.MachineSpecs.Acceptance.{IsAccepted};
 ghost use Rattle.lus_live_instance.specs.MachineSpecs.CodeSpecs.Codes.{program_of};
-ghost use Rattle.lus_hosting.specs.Audits.{FindsInLog, FindsLine, HasAuditedLog, IsFound, IsNoLog, LogLine, Observes, SeesMore, wrong_log_text};
+ghost use Rattle.lus_hosting.specs.Audits.{FindsInLog, FindsLine, HasAuditedLog, IsFound, IsNoLog, LogEntry, LogLine, Observes, SeesMore, wrong_log_text};
 ghost use Rattle.lus_hosting.specs.Hosts.{Keeps};
+ghost use Rattle.lus_hosting.specs.LastEntries.{IsEntryOf};
 ghost use Rattle.lus_hosting.specs.Logs.{IsWord, Logged};
 ghost use Rattle.lus_hosting.specs.Turns.{StandsBehind};
 ghost use Rattle.lus_hosting.specs.declared.words.Words.TheVariants.{Entry as EntryWords};
@@ -182,6 +183,23 @@ fn wrong_report(alloc: Global, number: u64, line: &[u8], right: &str) -> Result<
     })
 }
 
+/// Has the observer go on behind the right entry of the line of this number.
+fn see_entry<O: LogObserver>(
+    host: Host<'_>,
+    instances: &Instances,
+    line: u64,
+    observer: &mut O,
+) -> Result<(), AuditError>
+    requires { host.node.0 < length (program_of (arc_value host.program.now)).nodes }
+    ensures seen { let p = program_of (arc_value host.entry.program.now) in
+        OnOk result ((lines : List LogLine) (l : Logged) → line ≡ length lines + 1 → IsEntryOf instances.now.last l
+        → O.seen observer.old p host.entry.node.0 lines → O.seen observer.new p host.entry.node.0 (lines ++ LogEntry l ∷ [])) }
+    ensures outside { IfErr result IsOutside }
+{
+    let entry = instances.last.as_ref();
+    observer.see(host.alloc, host.program, host.node, line, entry)
+}
+
 /// Has the observer go on behind what was found, which begins on the line of this number.
 fn observe<O: LogObserver>(
     host: Host<'_>,
@@ -193,24 +211,22 @@ fn observe<O: LogObserver>(
     requires { host.node.0 < length (program_of (arc_value host.program.now)).nodes }
     ensures seen { let p = program_of (arc_value host.entry.program.now) in
         OnOk result ((lines : List LogLine) → line ≡ length lines + 1 → O.seen observer.old p host.entry.node.0 lines
-        → SeesMore found instances.now.told (O.seen observer.new p host.entry.node.0) lines) }
+        → SeesMore found instances.now.last (O.seen observer.new p host.entry.node.0) lines) }
     ensures outside { IfErr result IsOutside }
 {
     match found {
-        Found::Right => {
-            let told = instances.told.as_ref();
-            observer.see(host.alloc, host.program, host.node, line, told)
-        }
+        Found::Right => see_entry(host, instances, line, observer),
+        Found::Wrong => see_entry(host, instances, line, observer),
         Found::Noted => {
             observer.pass();
             Ok(())
         }
-        Found::Wrong | Found::NoLine | Found::Cut | Found::Over => Ok(()),
+        Found::NoLine | Found::Cut | Found::Over => Ok(()),
     }
 }
 
 /// Audits a log of instances of a node: each entry is replayed on a new instance of its name, up to the first whose reply isn't the right
-/// one, and is observed meanwhile; notes are passed over. It is an error of a line where that is none of a log, which no line is of a log
+/// one, and the right entries are observed meanwhile, also that of the line that isn't right; notes are passed over. It is an error of a line where that is none of a log, which no line is of a log
 /// that can be read back: it is then in `line`. No more is kept than the instances, two lines and the observer. `keys` are of the names'
 /// hash function.
 pub fn audit_log<S: Source, O: LogObserver>(

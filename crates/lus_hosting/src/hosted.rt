@@ -6,7 +6,7 @@ ghost use Rattle.lus_play.specs.Plays.{entry_of};
 ghost use Rattle.lus_program.specs.Programs.{Program as PlainProgram};
 ghost use Rattle.lus_replay.specs.Replays.{IsJudged};
 ghost use Rattle.lus_hosting.specs.Hosts.{HasCalled};
-ghost use Rattle.lus_hosting.specs.Told.{IsLast};
+ghost use Rattle.lus_hosting.specs.LastEntries.{IsLast};
 
 use lus_live_instance::Instance;
 use lus_play::{PlayError, Reacts};
@@ -15,7 +15,7 @@ use lus_requests::{Entry, Reply, Request};
 use lus_values::{Memory, Names};
 use std::alloc::Global;
 
-/// An instance, how many entries it has, and the last, where that is kept.
+/// An instance, how many entries it has, and the last of them, where that is recalled.
 #[derive(Drop)]
 pub(crate) struct Hosted {
     pub(crate) alloc: Global,
@@ -25,7 +25,7 @@ pub(crate) struct Hosted {
     pub(crate) last: Option<Entry>,
 }
 
-/// The entry of a request and its reply, where that is kept and there is memory for it.
+/// The entry of a request and its reply, where that is recalled and there is memory for it.
 fn recall(recalls: bool, alloc: Global, request: &Request, reply: &Reply) -> Option<Entry>
     ensures { IfSome result (λ e. e ≡ entry_of request.now reply.now) }
 {
@@ -77,12 +77,12 @@ pub(crate) fn call(hosted: &mut Hosted, request: Request) -> Result<(u64, Entry)
     Ok((number, entry))
 }
 
-/// Replays the next entry, which is counted even where it isn't right: nothing is asked of the instance behind that. Gives the entry that
-/// is right, too, where that is kept.
+/// Replays the next entry, which is counted even where it isn't right: nothing is asked of the instance behind that. Gives the right entry
+/// too, where that is recalled.
 pub(crate) fn replay(
     hosted: &mut Hosted,
+    alloc: Global,
     names: &Names,
-    recalls: bool,
     text: &str,
     right: &mut String,
 ) -> Result<(Verdict, Option<Entry>), PlayError>
@@ -94,9 +94,7 @@ pub(crate) fn replay(
         → IfOk result (λ r. IsLast r.1 hosted.new.instance.reactor.history) }
 {
     let number = hosted.entries.checked_add(1).ok_or(PlayError::Full)?;
-    let alloc = hosted.alloc;
     let line = line_of(alloc, text)?;
-    hosted.recalls = recalls;
     hosted.last = None;
     let verdict = replay_line(alloc, hosted, names, number, &line, right)?;
     hosted.entries = number;

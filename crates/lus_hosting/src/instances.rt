@@ -10,7 +10,7 @@ ghost use Rattle.lus_hosting.specs.Logs.{Logged};
 
 use crate::host::Host;
 use crate::hosted::{Hosted, call, replay};
-use crate::told::Told;
+use crate::named_entry::NamedEntry;
 use indexmap::IndexMap;
 use lus_live_instance::new_instance;
 use lus_play::PlayError;
@@ -20,30 +20,31 @@ use lus_values::Memory;
 use std::alloc::Global;
 use std::collections::hash_map::RandomState;
 
-/// Instances by their names, which strangers choose: the hash function has keys of its own. What was told last is kept where it is to be.
+/// Instances by their names, which strangers choose: the hash function has keys of its own. Where entries are recalled, the last that was
+/// replayed is kept, with the reply that is right.
 #[derive(Drop)]
 pub(crate) struct Instances {
     pub(crate) by_name: IndexMap<String, Hosted, RandomState>,
     recalls: bool,
-    pub(crate) told: Option<Told>,
+    pub(crate) last: Option<NamedEntry>,
 }
 
-/// No instances yet. The entries that are replayed are told one by one, or not.
+/// No instances yet. The entries that are replayed are recalled, or not.
 pub(crate) fn no_instances(alloc: Global, keys: RandomState, recalls: bool) -> Instances
     ensures { result.by_name.entries ≡ [] }
 {
     Instances {
         by_name: IndexMap::with_hasher(alloc, keys),
         recalls,
-        told: None,
+        last: None,
     }
 }
 
-/// What is told of the instance of a name.
-fn told_of(alloc: Global, name: &str, last: Option<Entry>) -> Option<Told>
-    ensures { IfSome result (λ t. (string_bytes t.instance ≡ name.now) × (last ≡ Some t.entry)) }
+/// The entry of the instance of a name, where it was recalled and there is memory for it.
+fn named(alloc: Global, name: &str, last: Option<Entry>) -> Option<NamedEntry>
+    ensures { IfSome result (λ e. (string_bytes e.instance ≡ name.now) × (last ≡ Some e.entry)) }
 {
-    Some(Told {
+    Some(NamedEntry {
         entry: last?,
         instance: String::from_str(alloc, name).ok()?,
     })
@@ -89,7 +90,7 @@ pub(crate) fn call_on(
     }
 }
 
-/// Replays an entry on the instance of a name, and tells it. Where its reply isn't the right one, the line that would be right is in `right`.
+/// Replays an entry on the instance of a name. Where its reply isn't the right one, the line that would be right is in `right`.
 pub(crate) fn replay_on(
     host: Host<'_>,
     instances: &mut Instances,
@@ -103,11 +104,10 @@ pub(crate) fn replay_on(
         (string_bytes right.new) v instances.new) }
 {
     open(host, instances, name)?;
-    let recalls = instances.recalls;
     match instances.by_name.get_mut(name) {
         Some(hosted) => {
-            let (verdict, last) = replay(hosted, host.program.names(), recalls, entry, right)?;
-            instances.told = told_of(host.alloc, name, last);
+            let (verdict, last) = replay(hosted, host.alloc, host.program.names(), entry, right)?;
+            instances.last = named(host.alloc, name, last);
             Ok(verdict)
         }
         None => Err(PlayError::Memory),

@@ -6,9 +6,9 @@ ghost use Rattle.lus_live_instance.specs.MachineSpecs.CodeSpecs.Codes.{program_o
 ghost use Rattle.lus_program.specs.Programs.{Program as PlainProgram};
 ghost use Rattle.lus_hosting.specs.Audits.{LogEntry, LogLine, LogNote};
 ghost use Rattle.lus_hosting.specs.Logs.{Logged};
-ghost use Rattle.lus_hosting.specs.Told.{IsTold};
+ghost use Rattle.lus_hosting.specs.LastEntries.{IsEntryOf};
 
-use crate::told::Told;
+use crate::named_entry::NamedEntry;
 use lus_lawful::{AuditError, Unobserved};
 use lus_live_instance::lus_machine::{NodeId, Program};
 use std::alloc::Global;
@@ -22,21 +22,21 @@ pub trait LogObserver {
     // It has seen these lines of a log of instances of this node of a program.
     ghost seen: { Self → PlainProgram → ℕ → List LogLine → Type 0 };
 
-    /// Whether it is to be told the entries.
+    /// Whether the entries are to be recalled for it.
     fn recalls(&self) -> bool;
 
-    /// Goes on behind an entry, on the line of this number. Nothing was told where it isn't asked for, or there was no memory for it.
+    /// Goes on behind the right entry of the line of this number. There is none where it isn't to be recalled, or there was no memory for it.
     fn see(
         &mut self,
         alloc: Global,
         program: &Program,
         node: NodeId,
         line: u64,
-        told: Option<&Told>,
+        entry: Option<&NamedEntry>,
     ) -> Result<(), AuditError>
         requires { node.0 < length (program_of program.now).nodes }
         ensures seen { OnOk result ((lines : List LogLine) (l : Logged) → line ≡ length lines + 1
-            → IsTold (option_map (λ t. t.now) told.entry) l → seen self.old (program_of program.now) node.0 lines
+            → IsEntryOf (option_map (λ e. e.now) entry.entry) l → seen self.old (program_of program.now) node.0 lines
             → seen self.new (program_of program.now) node.0 (lines ++ LogEntry l ∷ [])) }
         ensures outside { IfErr result IsOutside };
 
@@ -59,7 +59,7 @@ impl LogObserver for Unobserved {
         _program: &Program,
         _node: NodeId,
         _line: u64,
-        _told: Option<&Told>,
+        _entry: Option<&NamedEntry>,
     ) -> Result<(), AuditError> {
         Ok(())
     }

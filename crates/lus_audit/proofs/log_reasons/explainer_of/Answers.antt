@@ -1,10 +1,12 @@
 -- What an accepted program has.
-use Rattle.std.proofs.Common.{◌∙◌, [], sym, subst}
+use Rattle.std.proofs.Common.{◌∙◌, [], ap, sym, subst}
 use Rattle.std.proofs.lemmas.Result.{IfOk-weaker}
 use Rattle.lus_values.specs.Lists.{Each}
 use Rattle.lus_program.specs.Programs.{Program}
 use Rattle.lus_program.specs.Resolved.{Resolved}
+use Rattle.lus_program.specs.View.{program_seen}
 use Rattle.lus_order.specs.Orders.{IsNarrow, NeedsVariables}
+use Rattle.lus_printable.specs.Printable.{printable}
 use Rattle.lus_windows.specs.Reasons.{Explains}
 use Rattle.lus_audit.proofs.Accepted.{accepted_resolved, accepted_needs, accepted_narrow}
 use Rattle.lus_audit.proofs.log_reasons.explainer_of.Goals as goal
@@ -20,5 +22,10 @@ new-requires-clause-narrow c = subst (λ (p : Program). Each IsNarrow p.nodes) (
 
 pub returns : goal.returns
 returns c =
+    let f = c.args.node.0 in
+    let shown = c.as_str.ensures.value ∙ c.in_ok-shown.ensures.exact ∙ ap printable c.as_bytes.ensures.value in
     IfOk-weaker c.new.result _ _
-    (λ e x. subst (λ (p : Program). Explains p c.args.node.0 _ [] e) c.source.ensures.same (subst (λ i. Explains _ c.args.node.0 i [] e) ? x)) c.new.ensures
+    (λ e explains.
+    subst (λ (p : Program). Explains p f (printable c.args.instance.now) [] e) c.source.ensures.same
+    (subst (λ i. Explains (program_seen c.source.result.now) f i [] e) shown explains))
+    c.new.ensures

@@ -11,5 +11,5 @@ returns-clause-audited g c =
     let f = c.args.node.0 in
     let report = c.in_ok-report.report in
     file_then (g.D.Folder.known c.args.folder.now c.args.log.now) _ _
-    (λ bytes found. found_as p f _ _ report.is_lawful report.text.items bytes (λ lawful lines observes follows. observes (c.new-explanations.ensures p f follows)) found)
+    (λ bytes found. found_as p f _ _ report.is_lawful report.text.items bytes (λ lines observes follows. observes (c.new-explanations.ensures p f follows)) found)
     c.in_ok-report.ensures.audited

@@ -1,4 +1,4 @@
--- The instance keeps to its node: nothing is kept before the entry.
+-- The instance keeps to its node: no entry is recalled before this one.
 use Rattle.lus_hosting.proofs.hosted.replay.Goals as goal
 
 pub returns-in_err-verdict-clause-live : goal.returns-in_err-verdict-clause-live
