@@ -159,9 +159,7 @@ fn audit_file<D: Folder>(
     let Ok(program) = Arc::new(alloc, program) else {
         return Err(Fault::Memory);
     };
-    audit_node(
-        alloc, folder, &program, node, task.log, task.is_why, keys,
-    )
+    audit_node(alloc, folder, &program, node, task.log, task.is_why, keys)
 }
 
 /// Whether the log that the words name is lawful. What is reported of it is written.
