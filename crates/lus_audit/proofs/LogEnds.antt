@@ -76,9 +76,9 @@ module _ (p : Program) (f : ℕ) where
 
   -- those of the lines that were seen are
   pub reported_with : (S : List LogLine → Type 0) (is_lawful again : Bool) (text reasons report : Text) (bytes : Bytes)
-      → ((lines : List LogLine) → S lines → TellsLog p f lines reasons) → again ≡ is_lawful → report ≡ text ++ reasons
-      → IsLogFound p f S is_lawful text bytes → IsLogReported p f true again report bytes
-  reported_with S is_lawful again text reasons report bytes tells same is found = record {
+      → IsLogFound p f S is_lawful text bytes → ((lines : List LogLine) → S lines → TellsLog p f lines reasons) → again ≡ is_lawful
+      → report ≡ text ++ reasons → IsLogReported p f true again report bytes
+  reported_with S is_lawful again text reasons report bytes found tells same is = record {
     found = text;
     reasons = reasons;
     is = subst (λ b. IsLogFound p f (AreLogReasons true p f reasons) b text bytes) (sym same)

@@ -17,12 +17,13 @@ returns-then-first-clause-audited g c =
     let f = c.args.node.0 in
     let report = c.in_ok-report.report in
     let first = c.in_ok-report.first in
+    let named = get_by_text c.with_hasher-none.result in
     let none = none_named c.with_hasher-none.result c.with_hasher-none.ensures.empty in
     IfOk-weaker c.with_reasons.result _ _
     (λ r made.
     file_then (g.D.Folder.known c.args.folder.now c.args.log.now) _ _
-    (λ bytes found. reported_with p f _ report.is_lawful r.is_lawful report.text.items (string_bytes first.text) r.text.items bytes
-    (λ lines seen. (seen (follows_none p f [] _ none)).tells c.if-first.true) made.0 made.1 found)
+    (λ bytes found. reported_with p f (ExplainsFrom p f named first) report.is_lawful r.is_lawful report.text.items (string_bytes first.text) r.text.items bytes
+    found (λ lines seen. (seen (follows_none p f [] named none)).tells c.if-first.true) made.0 made.1)
     c.in_ok-report.ensures.audited)
     c.with_reasons.ensures.ok
 
@@ -40,12 +41,14 @@ returns-then-second-clause-audited g c =
     let first = c.in_ok-report.first in
     let again = c.in_ok-again.again in
     let second = c.in_ok-again.second in
+    let named = get_by_text c.with_hasher-none.result in
     let none = none_named c.with_hasher-none.result c.with_hasher-none.ensures.empty in
     IfOk-weaker c.with_reasons-then-second.result _ _
     (λ r made.
     file_both (g.D.Folder.known c.args.folder.now c.args.log.now) _ _ _
-    (λ bytes found here. reported_with p f _ again.is_lawful r.is_lawful again.text.items (string_bytes second.text) r.text.items bytes
-    (λ lines seen. (seen (named_follow p f _ first report.is_lawful report.text.items bytes none found)).tells c.if-second.true) made.0 made.1 here)
+    (λ bytes found here. reported_with p f (ExplainsFrom p f (get_by_text first.unfollowed) second) again.is_lawful r.is_lawful again.text.items
+    (string_bytes second.text) r.text.items bytes here
+    (λ lines seen. (seen (named_follow p f named first report.is_lawful report.text.items bytes none found)).tells c.if-second.true) made.0 made.1)
     c.in_ok-report.ensures.audited c.in_ok-again.ensures.audited)
     c.with_reasons-then-second.ensures.ok
 
