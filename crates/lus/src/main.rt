@@ -6,6 +6,7 @@
 mod files;
 mod instance;
 mod journal;
+mod leading;
 mod mistaken;
 mod sections;
 mod tools;
@@ -15,6 +16,7 @@ mod wrong_line;
 use crate::files::{name_unopened, names_none};
 use crate::instance::{draw_instance, names_instance};
 use crate::journal::JournalFile;
+use crate::leading::{Reported, asks_why, tell_entries_before};
 use crate::mistaken::{explain_rejected, explain_signal, explain_words};
 use crate::tools::arguments_of;
 use crate::usage::{introduce, was_introduced};
@@ -58,7 +60,8 @@ fn tool_and_words(arguments: &[String]) -> (&str, &[String]) {
     }
 }
 
-/// Audits the log of many instances. Keys for the hash function of their names come from the machine.
+/// Audits the log of many instances, and says which entries of its instance stand before the first wrong one where reasons are asked. Keys for
+/// the hash function of their names come from the machine.
 fn audit_many<O: Sink, F: Sink>(
     rt: &HostRuntime,
     words: &[String],
@@ -68,7 +71,14 @@ fn audit_many<O: Sink, F: Sink>(
     let Ok(keys) = RandomState::new(rt) else {
         return tell(faults, Fault::File);
     };
-    lus_audit::command_many(rt.alloc(), &Disk(rt), words, keys, output, faults)
+    let mut reported = Reported::new(rt.alloc(), output);
+    let status = lus_audit::command_many(rt.alloc(), &Disk(rt), words, keys, &mut reported, faults);
+    if let Some(number) = reported.wrong_line() {
+        if asks_why(words) {
+            tell_entries_before(rt, rt.alloc(), words, number, faults);
+        }
+    }
+    status
 }
 
 /// Says that another run writes to the file of a journal or a log, where it is held.

@@ -54,7 +54,7 @@ shows the journal's lines. Status: 0 drawn, 1 to 4 as lus.
 ";
 
 const AUDIT: &str = "usage: lus_audit [--why] PROGRAM JOURNAL
-       lus_audit --many PROGRAM NODE LOG
+       lus_audit --many [--why] PROGRAM NODE LOG
 
 Says whether each reply of a journal is the right one to its request, after those before it,
 by a new run of the program: `NAME lawful` for each instance, or the first wrong line with
@@ -62,7 +62,7 @@ the right one.
 
   --why  why each request of a valid journal that was refused is: which input, its type or
          clock; or which operation has no value, with its operands and its place
-  --many a log of instances of NODE, which `lus_live --many` wrote
+  --many a log of instances of NODE, which `lus_live --many` wrote; with --why a file, no pipe
 
 Status: 0 valid, 1 the program is rejected, 2 a wrong line, or no journal,
 3 a file or the output fails, 4 out of memory.

@@ -17,6 +17,7 @@ use Rattle.lus_live_instance.specs.MachineSpecs.Constructors.{names_of}
 use Rattle.lus_live_instance.specs.MachineSpecs.HistorySpecs.Histories.{History}
 use Rattle.lus_hosting.specs.Logs.{Logged, entries_of, next_of}
 use Rattle.lus_hosting.specs.Spellings.{Spelling}
+use Rattle.lus_hosting.specs.LastEntries.{IsEntryOf}
 use Rattle.lus_hosting.specs.Turns.{AreTaken, IsSo, IsTurn, Reads, Turn, Called, Denied, Noted, Replayed, added_by, answer_at, entry_at, line_at}
 use Rattle.lus_hosting.specs.declared.hosted.Hosted.{Hosted}
 use Rattle.lus_hosting.specs.declared.instances.Instances.{Instances}
@@ -54,11 +55,12 @@ HasCalledOn p f log instance r n e new =
 abbrev pub HasReplayedOn : Program → ℕ → List Logged → Text → Text → Text → Verdict → Instances → Type 0
 HasReplayedOn p f log instance line right verdicts.Right new =
     (s : Said) × (line ≡ said_line (names_of p) (next_of instance log) s) × Keeps p f (log ++ record { instance = instance; said = s } ∷ []) new
-    × AsksOnly (names_of p) (next_of instance log) line s.caller s.request
+    × AsksOnly (names_of p) (next_of instance log) line s.caller s.request × IsEntryOf new.last (record { instance = instance; said = s })
 HasReplayedOn p f log instance line right verdicts.Wrong new =
     (s : Said) × (right ≡ said_line (names_of p) (next_of instance log) s) × Keeps p f (log ++ record { instance = instance; said = s } ∷ []) new
     × AsksOnly (names_of p) (next_of instance log) line s.caller s.request
     × BeginsAsked (names_of p) s.caller (next_of instance log) s.request line × (line ≢ right)
+    × IsEntryOf new.last (record { instance = instance; said = s })
 HasReplayedOn p f log instance line right verdicts.NoEntry new = AsksNothing (names_of p) (next_of instance log) line
 
 -- what becomes of a line

@@ -13,13 +13,12 @@ ghost use Rattle.lus_hosting.specs.Turns.{AreSafe, HasHosted, HasHostedSome, Sto
 
 use crate::error::HostError;
 use crate::host::Host;
-use crate::instances::Instances;
+use crate::instances::{Instances, no_instances};
 use crate::recovering::Recovered;
 use crate::settling::are_due;
 use crate::telling::{LogLines, Silent, Tells};
 use crate::turns::{Kind, Texts, answer, answer_long, clear};
 use crate::words::Lines;
-use indexmap::IndexMap;
 use lus_bursts::{Syncs, Waiting};
 use lus_devices::{Sink, Source, write_all};
 use lus_lines::{Reading, read_line};
@@ -204,9 +203,7 @@ pub fn host_many<T: Tells, S: Source, O: Sink>(
         program,
         node,
     };
-    let mut instances = Instances {
-        by_name: IndexMap::with_hasher(alloc, keys),
-    };
+    let mut instances = no_instances(alloc, keys, false);
     let silent = Silent;
     let mut nowhere = Nowhere;
     host_lines(
