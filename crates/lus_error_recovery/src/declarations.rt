@@ -8,12 +8,13 @@ use lus_syntax::{Place, Span, Symbol, Token, TokenKind, Word};
 use std::alloc::{AllocError, Global};
 
 /// A node, or a group of types or constants: where it begins, what is left of its tokens, and where those stood that were taken out.
-/// Of a node whether variables without an equation have values.
+/// Of a node whether variables without an equation have values. Whether words of its head are others than those of the source.
 #[derive(Drop)]
 pub(crate) struct Declaration<'s> {
     pub start: Place,
     pub is_node: bool,
     pub is_filled: bool,
+    pub is_rewritten: bool,
     pub tokens: Vec<Token<'s>>,
     pub taken: Vec<Span>,
 }
@@ -41,6 +42,7 @@ pub(crate) fn declarations_of<'s>(
                 start: token.span.start,
                 is_node: matches!(token.kind, TokenKind::Keyword(Word::Node | Word::Function)),
                 is_filled: false,
+                is_rewritten: false,
                 tokens: Vec::new(alloc),
                 taken: Vec::new(alloc),
             })?;
@@ -205,6 +207,15 @@ impl<'s> Declaration<'s> {
         }
         self.tokens = tokens;
         Ok(true)
+    }
+
+    /// The bytes of some tokens, from the first one's first up to that behind the last one's last.
+    pub fn bytes_of(&self, range: Range) -> (usize, usize) {
+        let (from, to) = range;
+        match (self.tokens.get(from), self.tokens.get(to.saturating_sub(1))) {
+            (Some(first), Some(last)) => (first.span.start.byte, last.span.end().byte),
+            _ => (0, 0),
+        }
     }
 
     /// Has it be passed over where the source is read again, since its tokens aren't those of the source any more.

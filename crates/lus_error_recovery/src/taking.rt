@@ -146,9 +146,25 @@ impl<'s> Rest<'s> {
         let Some(statement) = declaration.statement_at(at) else {
             return Ok(false);
         };
+        let bytes = declaration.bytes_of(statement);
         declaration.is_filled = true;
         declaration.take(alloc, statement)?;
+        self.pass_over_unread(alloc, bytes)?;
         Ok(true)
+    }
+
+    /// Has what is no token between two bytes be passed over.
+    fn pass_over_unread(&mut self, alloc: Global, bytes: (usize, usize)) -> Result<(), AllocError> {
+        let (from, to) = bytes;
+        let mut others = Vec::new(alloc);
+        for unread in &self.unread {
+            let byte = unread.span.start.byte;
+            if byte < from || to <= byte {
+                others.push(*unread)?;
+            }
+        }
+        self.unread = others;
+        Ok(())
     }
 
     /// Takes out a declaration, whose names are lost.
@@ -165,23 +181,33 @@ impl<'s> Rest<'s> {
         declaration.take(alloc, (0, all))
     }
 
-    /// Makes a change that mends a fault of grammar in the tokens of its declaration, if the fault is in a statement, or the declaration
-    /// lacks its `tel`: whether it did.
+    /// Makes a change that mends a fault of grammar in the tokens of its declaration, if the fault is in a statement, is a type's name, or
+    /// the declaration lacks its `tel`: whether it did.
     fn mend(&mut self, alloc: Global, fault: &Fault<'s>, edit: &Edit) -> Result<bool, AllocError> {
         let Some(declaration) = self.declarations.get_mut(fault.declaration) else {
             return Ok(false);
         };
         let at = declaration.place_at(fault.line, fault.column);
-        let is_known = if fault.here == fault.declaration {
-            declaration.statement_at(at).is_some()
+        let is_in_statement = declaration.statement_at(at).is_some();
+        let is_known = if fault.number != RefusalNumber::Syntax {
+            fault.number == RefusalNumber::Unsupported && !is_in_statement
+        } else if fault.here == fault.declaration {
+            is_in_statement
         } else {
             edit.text.trim() == "tel"
         };
-        if is_known {
-            declaration.change(alloc, edit, fault.line, fault.column)
-        } else {
-            Ok(false)
+        if !is_known || !declaration.change(alloc, edit, fault.line, fault.column)? {
+            return Ok(false);
         }
+        if fault.number == RefusalNumber::Unsupported {
+            declaration.is_rewritten = true;
+            let text = edit.text.clone()?;
+            let (byte, length) = (edit.byte, edit.length);
+            self.written.push(Edit { byte, length, text })?;
+        }
+        let end = edit.byte.saturating_add(edit.length);
+        self.pass_over_unread(alloc, (edit.byte, end))?;
+        Ok(true)
     }
 
     /// Takes out what a fault is in: its statement, or of a node that a variable has no equation, else the declaration; nothing more than what
@@ -223,11 +249,14 @@ impl<'s> Rest<'s> {
         let mut fault = self.fault_of(refusal);
         if let Some(finding) = finding
             && let Some(edit) = &finding.edit
-            && fault.number == RefusalNumber::Syntax
+            && is_of_grammar(fault.number)
         {
             fault.is_mended = self.mend(alloc, &fault, edit)?;
         }
         self.found.push(fault)?;
+        if fault.is_mended && fault.number == RefusalNumber::Unsupported {
+            return Ok(());
+        }
         if let Some(finding) = finding
             && !is_of_grammar(fault.number)
         {
