@@ -99,7 +99,8 @@ impl<'s> Declaration<'s> {
         None
     }
 
-    /// The place of the sign behind the left side of the statement that a token stands in, if that begins as an equation does.
+    /// The place of the sign behind the left side of the statement that a token stands in, if that begins as an equation does: an equals
+    /// sign, or another sign that has one behind it.
     pub fn sign_at(&self, at: usize) -> Option<usize> {
         let (first, behind) = self.statement_at(at)?;
         for place in first..behind {
@@ -107,10 +108,33 @@ impl<'s> Declaration<'s> {
                 TokenKind::Identifier(_) => {}
                 TokenKind::Punctuation(Symbol::Comma | Symbol::Open | Symbol::Close) => {}
                 TokenKind::Punctuation(Symbol::Equal) if place > first => return Some(place),
+                TokenKind::Punctuation(_)
+                    if place > first && self.is_equal(place.saturating_add(1)) => {
+                    return Some(place);
+                }
                 _ => return None,
             }
         }
         None
+    }
+
+    /// Whether an equals sign stands at a place.
+    fn is_equal(&self, place: usize) -> bool {
+        self.tokens.get(place).is_some_and(|token| matches!(
+            token.kind,
+            TokenKind::Punctuation(Symbol::Equal)
+        ))
+    }
+
+    /// The line of the last token that begins before a byte.
+    pub fn line_before(&self, byte: usize) -> usize {
+        match self
+            .tokens
+            .get(count_before(&self.tokens, byte).saturating_sub(1))
+        {
+            Some(token) => token.span.start.line,
+            None => 0,
+        }
     }
 
     /// The names that it declares: of a node its own, and all of what opens no declaration.

@@ -45,11 +45,10 @@ fn left_of<'t>(fault: &Fault<'t>) -> Option<&'t str> {
 /// What is said of `current` before a variable with a clock.
 pub fn held(alloc: Global, fault: &Fault<'_>) -> Result<Option<Finding>, AllocError> {
     let stream = fault.behind(1);
-    let (true, Some(ticks), Some(left)) = (
-        is_any(fault.found(), &["current"]),
-        clock_of(fault, stream),
-        left_of(fault),
-    ) else {
+    if !is_any(fault.found(), &["current"]) {
+        return Ok(None);
+    }
+    let (Some(ticks), Some(left)) = (clock_of(fault, stream), left_of(fault)) else {
         return Ok(None);
     };
     let first = if is_bool(fault, stream) {

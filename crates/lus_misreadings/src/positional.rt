@@ -60,12 +60,11 @@ fn fields_of<'t>(
     owner: &str,
 ) -> Result<Vec<&'t str>, AllocError> {
     let mut fields = Vec::new(alloc);
-    let mut seen = ["", "", ""];
+    let (mut first, mut second, mut third) = ("", "", "");
     let mut is_inside = false;
     let mut is_type = false;
     for token in fault.all {
         let text = slice_of(fault.source, token.span);
-        let [first, second, third] = seen;
         if is_inside {
             match text {
                 "}" => return Ok(fields),
@@ -77,7 +76,9 @@ fn fields_of<'t>(
         }
         is_inside = is_inside
             || first == owner && second == "=" && third == "struct" && is_any(text, &["{"]);
-        seen = [second, third, text];
+        first = second;
+        second = third;
+        third = text;
     }
     Ok(fields)
 }

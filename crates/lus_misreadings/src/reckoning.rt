@@ -16,17 +16,17 @@ fn value_of(fault: &Fault<'_>, text: &str) -> Option<i64> {
     if let Ok(number) = text.parse::<i64>() {
         return Some(number);
     }
-    let mut seen = ["", ""];
+    let (mut name, mut sign) = ("", "");
     for token in fault.all {
         let word = slice_of(fault.source, token.span);
-        let [name, sign] = seen;
         if name == text
             && sign == "="
             && let Ok(number) = word.parse::<i64>()
         {
             return Some(number);
         }
-        seen = [sign, word];
+        name = sign;
+        sign = word;
     }
     None
 }
@@ -97,7 +97,7 @@ pub fn computed_constant(alloc: Global, fault: &Fault<'_>) -> Result<Option<Find
 }
 
 /// The tokens of a number with a point that begins at a place: a number, the point and a number, with no blank between.
-fn decimal_at(fault: &Fault<'_>, place: usize) -> Option<(&str, &str)> {
+fn decimal_at<'t>(fault: &Fault<'t>, place: usize) -> Option<(&'t str, &'t str)> {
     let point = place.saturating_add(1);
     let last = place.saturating_add(2);
     let (whole, part) = (fault.text(place), fault.text(last));

@@ -1,6 +1,7 @@
 //! Comments that end later than they were meant to, and take what stands in them out of the program.
 
 use crate::fault::Fault;
+use crate::words::is_any;
 use lus_faults::{Edit, Finding, bytes_at};
 use lus_syntax::{Place, Span, place_behind};
 use std::alloc::{AllocError, Global};
@@ -29,7 +30,7 @@ fn is_of_program(line: &str) -> bool {
     let Some(word) = line.split(" ").next() else {
         return false;
     };
-    OPENINGS.contains(&word.strip_suffix(";").unwrap_or(word))
+    is_any(word.strip_suffix(";").unwrap_or(word), &OPENINGS)
 }
 
 /// The first line of a comment, behind the one that it begins on, that begins a declaration or a part of one.

@@ -240,6 +240,33 @@ fn with_values<'t>(
     })
 }
 
+/// What is said of the values of an `if` that is all that defines a variable: which type that has.
+fn with_choice<'t>(given: Given<'t>, said: Said<'t>, expr: &'t Expr) -> Option<Said<'t>> {
+    let equation = given.equation_with(expr)?;
+    if !matches!(expr, Expr::If(_, _, _, _))
+        || equation.left.len() != 1
+        || start_of(&equation.right).byte != start_of(expr).byte
+    {
+        return None;
+    }
+    let left = equation.left.first()?;
+    let variable = variable_named(given.node?, &left.text)?;
+    let own = match &variable.group.type_name {
+        TypeName::Bool(_) => "bool",
+        TypeName::Int(_) => "int",
+        TypeName::Declared(name) => name.text.as_str(),
+    };
+    Some(Said {
+        advice: "chosen",
+        words: Words {
+            first: &left.text,
+            own,
+            ..said.words
+        },
+        ..said
+    })
+}
+
 /// Two operands that have to have one type, and have two.
 fn alike<'t>(given: Given<'t>, expr: &'t Expr, one: Kind, other: Kind) -> Option<Said<'t>> {
     let (left, right) = pair(expr)?;
@@ -258,6 +285,7 @@ fn alike<'t>(given: Given<'t>, expr: &'t Expr, one: Kind, other: Kind) -> Option
             .or(with_constructor(given, said, right, other, one))
             .or(with_values(given, said, left, one, other))
             .or(with_values(given, said, right, other, one))
+            .or(with_choice(given, said, expr))
             .unwrap_or(said),
     )
 }

@@ -14,6 +14,7 @@ reckoned | - | To get a number from a `bool`, write `(if c then 1 else 0)`.
 tested | - | A constructor is not a condition. Compare with it, as in `x = On`.
 ordered | - | Constructors are not numbers, and have no order. Compare them with `=` or `<>`.
 structured | - | A structure is not an operand. Use its fields, as in `p.x`.
+chosen | - | `{first}` has type `{own}`, and so has each value of an `if` that defines it.
 foreign | - | `{member}` is a constructor of `{own}`. Those of `{other}` are `{first}` and the others of its declaration.
 values | variables on the left: {number}; values on the right: {count} | Only a call returns several values, one for each output. Write an equation for each variable.
 exchanged | - | Perhaps arguments {number} and {place} are exchanged.
