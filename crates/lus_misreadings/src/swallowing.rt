@@ -45,15 +45,16 @@ fn line_in(text: &str) -> Option<(usize, &str)> {
     None
 }
 
-/// Where another comment begins in a comment, on a later line than it.
+/// Where another comment of its kind begins in a comment, on a later line than it.
 fn opening_in(text: &str) -> Option<usize> {
     let bytes = text.as_bytes();
+    let first = bytes.first().copied().unwrap_or(b' ');
     let mut is_later = false;
     for (place, byte) in bytes.iter().enumerate() {
         is_later = is_later || *byte == b'\n';
         let next = bytes.get(place.saturating_add(1)).copied().unwrap_or(b' ');
         let behind = bytes.get(place.saturating_add(2)).copied().unwrap_or(b' ');
-        if is_later && (*byte == b'/' || *byte == b'(') && next == b'*' && behind != b')' {
+        if is_later && *byte == first && next == b'*' && behind != b')' {
             return Some(place);
         }
     }
@@ -222,7 +223,8 @@ fn has_token(fault: &Fault<'_>, from: usize, to: usize) -> bool {
     fault.all.iter().any(|token| from <= token.span.start.byte && token.span.start.byte < to)
 }
 
-/// What is said of a comment right before a fault, or open there, that takes a part of the program out of it.
+/// What is said of a comment right before a fault, or open there, that takes a part of the program out of it: one that ends holds another
+/// one, whose end it is.
 pub fn swallowing(alloc: Global, fault: &Fault<'_>) -> Result<Option<Finding>, AllocError> {
     let byte = match fault.token() {
         Some(token) => token.span.start.byte,
@@ -233,7 +235,8 @@ pub fn swallowing(alloc: Global, fault: &Fault<'_>) -> Result<Option<Finding>, A
     };
     let end = comment.start.saturating_add(comment.text.len());
     let swallowed = swallowed_by(comment);
-    if swallowed.line.is_none() && swallowed.opening.is_none() || has_token(fault, end, byte) {
+    let is_told = swallowed.opening.is_some() || !comment.is_closed && swallowed.line.is_some();
+    if !is_told || has_token(fault, end, byte) {
         return Ok(None);
     }
     Ok(Some(told_of(alloc, fault.source, comment, swallowed)?))
