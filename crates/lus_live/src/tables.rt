@@ -100,6 +100,8 @@ pub(crate) fn tell_table<J: Writes, S: Source, L: Syncs, O: Sink, F: Sink>(
             refused: 1,
         });
     };
+    // (the head is one of the lines that were read ahead)
+    waiting.take();
     write_outputs_head(alloc, program, node, output)?;
     let source = program.source();
     let names = program.names();

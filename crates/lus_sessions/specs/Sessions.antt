@@ -9,7 +9,6 @@ use Rattle.lus_bursts.specs.Syncs.{Safety}
 use Rattle.lus_play.specs.Plays.{AsksAll, AsksSome, HasWhole, IsKept, texts}
 use Rattle.lus_play.specs.declared.playing.Score.{Score}
 use Rattle.lus_sessions.specs.Recoveries.{entries_at, start_text}
-use Rattle.lus_sessions.specs.declared.journal.Parties.{Parties as StoredParties}
 use Rattle.lus_sessions.specs.declared.recovering.Start.{Start}
 
 -- how a journal is written on: what is missing where a run goes on, the line of the nth entry, and the last line behind so many
@@ -29,9 +28,6 @@ no_journal = scribe_of (λ start. []) (λ n e. []) (λ n. [])
 pub record Parties : Type 0 where
   pub node : Text
   pub caller : Text
-
-abbrev pub parties_seen : StoredParties → Parties
-parties_seen who = record { node = who.node.now; caller = who.caller.now }
 
 -- as the journal that names them
 abbrev pub journal_lines : Names → Parties → Scribe

@@ -12,14 +12,6 @@ use lus_requests::Entry;
 use lus_values::{Memory, Names};
 use std::alloc::Global;
 
-/// Whom a journal names.
-#[derive(Clone, Copy)]
-pub struct Parties<'a> {
-    /// The node, and the instance like it.
-    pub node: &'a str,
-    pub caller: &'a str,
-}
-
 /// The names of the callers, where there is one.
 pub fn callers(alloc: Global, caller: &str) -> Result<Vec<String>, Memory>
     ensures { IfOk result (λ v. map string_bytes v.items ≡ caller.now ∷ []) }

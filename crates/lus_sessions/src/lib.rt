@@ -15,7 +15,7 @@ mod writes;
 pub use calls::JsonCalls;
 pub use driving::drive;
 pub use error::RecoveryError;
-pub use journal::{JournalLines, Parties, callers};
+pub use journal::{JournalLines, callers};
 pub use laws::journals_are_joined;
 pub use lus_play::{Calls, PlayError, Reacts, Score, Speaks};
 pub use recovering::{Start, recover};
