@@ -127,7 +127,6 @@ fn push_diagnostic(
 
 /// Appends which sections of the documents say more: each once, in the order of what was said.
 fn push_sections(text: &mut String, all: &[Diagnostic]) -> Result<(), AllocError> {
-    let mut front = "\nSee docs/ERRORS.md#";
     for (place, told) in all.iter().enumerate() {
         let Some(section) = told.code.section() else {
             return Ok(());
@@ -137,8 +136,12 @@ fn push_sections(text: &mut String, all: &[Diagnostic]) -> Result<(), AllocError
             .iter()
             .all(|other| other.code.section() != Some(section))
         {
+            let front = if place == 0 {
+                "\nSee docs/ERRORS.md#"
+            } else {
+                ", #"
+            };
             write!(text, "{front}{section}")?;
-            front = ", #";
         }
     }
     text.push_str(".\n")

@@ -11,10 +11,8 @@ use crate::notes::notes_of;
 use crate::words::Form;
 use lus_diagnostics::{Diagnostic, push_lines, push_report};
 use lus_reports::lus_cli::Fault;
-use lus_reports::lus_cli::lus_host::{Program, text_of};
-use lus_reports::{
-    diagnose, errors_of, explain, explain_scripts, outline, script_error, warned_of,
-};
+use lus_reports::lus_cli::lus_host::{Program, read_scripts, text_of};
+use lus_reports::{diagnose, errors_of, explain, outline, script_error, warned_of};
 use lus_scripts::{Instance, ScriptRefusal, Scripts};
 use lus_syntax::Refusal;
 use lus_values::Memory;
@@ -233,7 +231,7 @@ fn judge_scripts(
     ensures judged { IfOk result (λ v. AreJudged form (program_of program.now) scripts.entry.bytes.now v.status) }
     ensures memory { IfErr result (λ f. f ≡ faults.Memory) }
 {
-    match explain_scripts(alloc, program, scripts.bytes) {
+    match read_scripts(alloc, program, scripts.bytes) {
         Ok(accepted) => accepted_scripts(alloc, form, file, program, scripts, &accepted),
         Err(refusal) => refused_scripts(alloc, form.is_json, program, scripts, refusal),
     }

@@ -6,9 +6,9 @@ ghost use Rattle.lus_reports.specs.CliSpecs.declared.fault.Fault.TheVariants as 
 ghost use Rattle.lus_explain.specs.Skeletons.{IsAnswer, IsScriptOf, TriesScript};
 
 use crate::judging::{File, Verdict, refused_program, refused_scripts};
+use lus_reports::explain;
 use lus_reports::lus_cli::Fault;
-use lus_reports::lus_cli::lus_host::Program;
-use lus_reports::{explain, explain_scripts};
+use lus_reports::lus_cli::lus_host::{Program, read_scripts};
 use lus_skeletons::skeleton;
 use std::alloc::Global;
 
@@ -39,7 +39,7 @@ fn tried(alloc: Global, program: &Program, node: &str, text: String) -> Result<S
         name: node,
         bytes: text.as_bytes(),
     };
-    match explain_scripts(alloc, program, file.bytes) {
+    match read_scripts(alloc, program, file.bytes) {
         Ok(_) => Ok(Script::Written(text)),
         Err(refusal) => {
             let refused = refused_scripts(alloc, false, program, file, refusal)?;

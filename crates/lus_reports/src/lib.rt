@@ -21,4 +21,4 @@ pub use diagnosing::{diagnose, errors_of, report, warned_of};
 pub use explanation::explain;
 pub use lus_cli;
 pub use outlining::outline;
-pub use scripts::{explain_scripts, script_error};
+pub use scripts::script_error;

@@ -1,9 +1,4 @@
-//! Why scripts are refused, and where it shows.
-
-ghost use Rattle.std.specs.Prelude.{IfErr, IfOk};
-ghost use Rattle.lus_cli.specs.CodeSpecs.Codes.{program_of};
-ghost use Rattle.lus_cli.specs.HostSpecs.ScriptRefusals.{AreRefused, AreScripts};
-ghost use Rattle.lus_scripts.specs.View.{scripts_seen};
+//! Where refused scripts fail, and why.
 
 use crate::check::Check;
 use crate::failed_check::FailedCheck;
@@ -16,26 +11,11 @@ use lus_cli::lus_host::Program;
 use lus_cli::script_text;
 use lus_culprits::{fault_at, push_unexpected, sentence};
 use lus_diagnostics::{Code, Diagnostic, Site};
-use lus_scripts::{ScriptRefusal, Scripts, read_scripts};
+use lus_scripts::ScriptRefusal;
 use lus_syntax::{MOST_BYTES, Place, place_behind};
 use lus_values::Memory;
 use serde_json::Value;
 use std::alloc::{AllocError, Global};
-
-/// The scripts of a program that bytes are, or why they are refused: by the first check that fails.
-pub fn explain_scripts(
-    alloc: Global,
-    program: &Program,
-    bytes: &[u8],
-) -> Result<Scripts, ScriptRefusal>
-    ensures accepted { IfOk result (λ s. AreScripts (program_of program.now) bytes.now (scripts_seen s)) }
-    ensures refused { IfErr result (λ e. AreRefused (program_of program.now) bytes.now e) }
-{
-    match read_scripts(alloc, program.source(), program.names(), bytes) {
-        Ok(scripts) => Ok(scripts),
-        Err(refusal) => Err(refusal),
-    }
-}
 
 /// What a refusal of scripts means.
 fn meaning_of(refusal: ScriptRefusal) -> &'static str {

@@ -10,7 +10,7 @@ use Rattle.lus_explain.proofs.judging.judge_scripts.Goals as goal
 
 pub returns-in-Ok-clause-judged : goal.returns-in-Ok-clause-judged
 returns-in-Ok-clause-judged c =
-    IfOk-weaker c.accepted_scripts.result _ _ (λ v passed. are_scripts (scripts_seen c.in-Ok.accepted) c.in-Ok.ensures.accepted passed)
+    IfOk-weaker c.accepted_scripts.result _ _ (λ v passed. are_scripts (scripts_seen c.in-Ok.accepted) c.in-Ok.ensures.ok passed)
     c.accepted_scripts.ensures.passed
 
 pub returns-in-Err-clause-judged : goal.returns-in-Err-clause-judged
