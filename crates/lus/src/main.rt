@@ -21,7 +21,7 @@ use crate::mistaken::{explain_rejected, explain_signal, explain_words};
 use crate::tools::arguments_of;
 use crate::usage::{introduce, was_introduced};
 use crate::wrong_line::{Told, explain_line, journal_line};
-use lus_bursts::{Counted, Waiting};
+use lus_bursts::{Counted, Syncs, Waiting};
 use lus_cli::{Fault, command, tell};
 use lus_devices::{Disk, Input, Output, Sink, write_all};
 use lus_lines::Buffered;
@@ -122,18 +122,23 @@ fn live_many<O: Sink, F: Sink>(
 }
 
 /// Plays calls on an instance, and perhaps goes on in the file of its journal.
-fn live<O: Sink, F: Sink>(
+fn live<O: Syncs, F: Sink>(
     rt: &HostRuntime,
     words: &[String],
     output: &mut O,
     faults: &mut F,
 ) -> u8 {
-    let mut lines = Buffered::new(Input(rt.stdin()));
+    let waiting = Waiting::new();
+    let mut lines = Buffered::new(Counted {
+        waiting: &waiting,
+        source: Input(rt.stdin()),
+    });
     let mut log = JournalFile::new(rt);
     let status = lus_live::command(
         rt.alloc(),
         &Disk(rt),
         words,
+        &waiting,
         &mut lines,
         &mut log,
         output,
@@ -144,7 +149,7 @@ fn live<O: Sink, F: Sink>(
 }
 
 /// Runs the tool of this name, but `lus`, which begins threads: its status.
-fn run<O: Sink, F: Sink>(
+fn run<O: Syncs, F: Sink>(
     rt: &HostRuntime,
     tool: &str,
     words: &[String],
@@ -194,7 +199,7 @@ fn explain_fault<F: Sink>(
 }
 
 /// The same as `run`, of a tool for people, which says more of a fault.
-fn run_for_people<O: Sink, F: Sink>(
+fn run_for_people<O: Syncs, F: Sink>(
     rt: &HostRuntime,
     tool: &str,
     words: &[String],

@@ -2,8 +2,8 @@
 
 use lus_hosting::lus_bursts::Waiting;
 use lus_hosting::lus_lawful::Unobserved;
-use lus_hosting::lus_live_instance::Score;
 use lus_hosting::lus_live_instance::lus_machine::compile;
+use lus_hosting::lus_sessions::Score;
 use lus_hosting::{LogLines, audit_log, host_behind, host_log, logs_are_joined, recover_log};
 use std::collections::hash_map::RandomState;
 use std::sync::Arc;

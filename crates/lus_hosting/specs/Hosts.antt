@@ -1,5 +1,5 @@
 -- Instances by their names, behind a log.
-use Rattle.std.specs.Prelude.{◌≡◌, ◌≢◌, ◌⊎◌, ◌+◌, ◌<◌, ◌++◌, ℕ, Bool, true, List, [], ◌∷◌, length, Option, Some, None}
+use Rattle.std.specs.Prelude.{◌≡◌, ◌≢◌, ◌⊎◌, ◌+◌, ◌<◌, ◌++◌, ℕ, List, [], ◌∷◌, length, Option, Some, None}
 use Rattle.indexmap.specs.IndexMap.{get_by_text}
 use Rattle.lus_values.specs.Names.{Text}
 use Rattle.lus_program.specs.Programs.{Program}
@@ -152,15 +152,3 @@ pub record HasTurnSome (reads : Reads) (p : Program) (f : ℕ) (j s : Spelling) 
 abbrev pub TurnFails : Reads → Program → ℕ → Spelling → Spelling → List Logged → Option Bytes → Option Bytes → Option Bytes → Option Bytes → Option Bytes
     → Type 0
 TurnFails reads p f j s log left l l' w w' = ((l' ≡ l) × (w' ≡ w)) ⊎ HasTurnSome reads p f j s log left l l' w w'
-
--- ---- answers that are held
-
--- No answer is held that is due, and nothing is written; or the log was synced, where it is to be, and all that was held is written.
-abbrev pub Settles : (L : Type 0) → (L → L → Type 0) → Bool → Bool → L → L → Bytes → Bytes → Option Bytes → Option Bytes → Type 0
-Settles L syncs is_due is_synced l l' held held' w w' =
-    ((held' ≡ held) × (is_due ≡ true → held ≡ []) × (w' ≡ w))
-    ⊎ ((is_synced ≡ true → syncs l l') × (held' ≡ []) × (w' ≡ with_text w held))
-
--- nothing is written, or a beginning of it is
-abbrev pub SettlesSome : (L : Type 0) → (L → L → Type 0) → Bool → L → L → Bytes → Option Bytes → Option Bytes → Type 0
-SettlesSome L syncs is_synced l l' held w w' = (w' ≡ w) ⊎ ((is_synced ≡ true → syncs l l') × WritesBeginning w w' held)

@@ -1,6 +1,6 @@
 //! Hosting many instances.
 
-ghost use Rattle.std.specs.Prelude.{◌≡◌, ◌<◌, [], None, Some, IfErr, IfOk, List, OnErr, OnOk, length, option_map, string_bytes, true, ⊤};
+ghost use Rattle.std.specs.Prelude.{◌≡◌, ◌<◌, [], None, Some, IfErr, IfOk, List, OnErr, OnOk, length, option_map, string_bytes, true};
 ghost use Rattle.std.specs.Arc.{arc_value};
 ghost use Rattle.lus_bursts.specs.Syncs.{IsSafe};
 ghost use Rattle.lus_devices.specs.Devices.{WritesBeginning, with_text};
@@ -15,16 +15,16 @@ use crate::error::HostError;
 use crate::host::Host;
 use crate::instances::{Instances, no_instances};
 use crate::recovering::Recovered;
-use crate::settling::{are_due, hold, settle};
+use crate::settling::are_due;
 use crate::telling::{LogLines, Silent, Tells};
 use crate::turns::{Kind, Texts, answer, answer_long, clear};
 use crate::words::Lines;
 use lus_bursts::{Syncs, Waiting};
-use lus_devices::{Failure, Sink, Source, write_all};
+use lus_devices::{Sink, Source, write_all};
 use lus_lines::{Reading, read_line};
-use lus_live_instance::Score;
 use lus_live_instance::lus_machine::{NodeId, Program};
-use lus_play::PlayError;
+use lus_play::{PlayError, Score, hold, settle};
+use lus_sessions::Nowhere;
 use std::alloc::Global;
 use std::collections::hash_map::RandomState;
 use std::sync::Arc;
@@ -174,28 +174,6 @@ fn host_lines<J: Tells, T: Tells, S: Source, L: Syncs, O: Sink>(
         }
     }
     Err(HostError::Full)
-}
-
-/// Takes all, and keeps nothing.
-#[derive(Drop)]
-struct Nowhere;
-
-impl Syncs for Nowhere {
-    ghost syncs = { λ _ _. ⊤ };
-
-    fn sync(&mut self) -> Result<(), Failure> {
-        Ok(())
-    }
-}
-
-impl Sink for Nowhere {
-    ghost written = { λ _. None };
-
-    ghost failures = { λ _. None };
-
-    fn write(&mut self, piece: &[u8]) -> Result<usize, Failure> {
-        Ok(piece.len())
-    }
 }
 
 /// Makes the call of each line on the instance that it names, and writes its entry before the next line is read; replays the entry of

@@ -26,5 +26,6 @@ pub use lus_lawful;
 pub use lus_live_instance;
 pub use named_entry::NamedEntry;
 pub use observer::LogObserver;
+pub use lus_sessions;
 pub use recovering::{Recovered, recover_log};
 pub use telling::{LogLines, Tells};
