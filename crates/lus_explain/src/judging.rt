@@ -50,7 +50,7 @@ fn push_all(
 }
 
 /// A verdict of this status: a text, and behind it what there is to say of a file.
-fn verdict(
+fn told(
     alloc: Global,
     mut text: String,
     is_json: bool,
@@ -79,7 +79,7 @@ pub fn refused_program(
     ensures memory { IfErr result (λ f. f ≡ faults.Memory) }
 {
     match errors_of(alloc, program.bytes, refusal) {
-        Ok(errors) => verdict(alloc, String::new(alloc), is_json, program, &errors, 1),
+        Ok(errors) => told(alloc, String::new(alloc), is_json, program, &errors, 1),
         Err(_) => Err(Fault::Memory),
     }
 }
@@ -100,7 +100,7 @@ pub fn refused_scripts(
         return Err(Fault::Memory);
     }
     match script_error(alloc, program, scripts.bytes, refusal) {
-        Ok(error) => verdict(alloc, String::new(alloc), is_json, scripts, &[error], 2),
+        Ok(error) => told(alloc, String::new(alloc), is_json, scripts, &[error], 2),
         Err(_) => Err(Fault::Memory),
     }
 }
@@ -135,7 +135,7 @@ fn accepted_program(
         }
     };
     let status = status_of(form, warnings);
-    verdict(alloc, text, form.is_json, program, warnings, status)
+    told(alloc, text, form.is_json, program, warnings, status)
 }
 
 /// Of a program alone.
@@ -150,7 +150,7 @@ fn judge_program(alloc: Global, form: Form, program: File<'_>) -> Result<Verdict
     if diagnosis.errors.is_empty() {
         accepted_program(alloc, form, program, &diagnosis.warnings)
     } else {
-        verdict(
+        told(
             alloc,
             String::new(alloc),
             form.is_json,
@@ -217,7 +217,7 @@ fn accepted_scripts(
         return Err(Fault::Memory);
     };
     let status = status_of(form, &warnings);
-    verdict(alloc, text, form.is_json, file, &warnings, status)
+    told(alloc, text, form.is_json, file, &warnings, status)
 }
 
 /// Of scripts for an accepted program.

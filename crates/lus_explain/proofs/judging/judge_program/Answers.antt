@@ -16,4 +16,4 @@ pub returns-else-is_empty-clause-judged : goal.returns-else-is_empty-clause-judg
 returns-else-is_empty-clause-judged c =
     let some : length c.in-Ok.diagnosis.errors.items ≢ 0 = grind (arith, common_steps) in
     let refused = refused_by c.args.program.bytes.now c.in-Ok.diagnosis.errors.items some c.in-Ok.ensures in
-    IfOk-weaker c.verdict.result _ _ (λ v status. is_refused refused.0 refused.1 status) c.verdict.ensures.status
+    IfOk-weaker c.told.result _ _ (λ v status. is_refused refused.0 refused.1 status) c.told.ensures.status
