@@ -99,6 +99,45 @@ impl<'s> Declaration<'s> {
         None
     }
 
+    /// Whether an equation begins at a place on a line of its own though no semicolon stands before it: a name and a sign, behind what ends an
+    /// operand.
+    fn begins_at(&self, place: usize) -> bool {
+        let (Some(before), Some(token)) = (
+            self.tokens.get(place.saturating_sub(1)),
+            self.tokens.get(place),
+        ) else {
+            return false;
+        };
+        let ends = matches!(
+            before.kind,
+            TokenKind::Identifier(_)
+                | TokenKind::Number(_)
+                | TokenKind::Keyword(Word::True | Word::False)
+                | TokenKind::Punctuation(Symbol::Close | Symbol::CloseBrace)
+        );
+        let behind = place.saturating_add(1);
+        ends && before.span.start.line < token.span.start.line
+            && matches!(token.kind, TokenKind::Identifier(_))
+            && (self.is_equal(behind) || self.is_equal(behind.saturating_add(1)))
+    }
+
+    /// The tokens of the equation that a token stands in, with its semicolon: its statement, from where the last equation begins before it
+    /// that lacks a semicolon before it.
+    pub fn equation_at(&self, at: usize) -> Option<Range> {
+        let (first, behind) = self.statement_at(at)?;
+        let mut begin = first;
+        let mut braces = 0;
+        for place in first..behind {
+            if let Some(token) = self.tokens.get(place) {
+                if place > first && place <= at && braces == 0 && self.begins_at(place) {
+                    begin = place;
+                }
+                braces = braces_behind(braces, token);
+            }
+        }
+        Some((begin, behind))
+    }
+
     /// The place of the sign behind the left side of the statement that a token stands in, if that begins as an equation does: an equals
     /// sign, or another sign that has one behind it.
     pub fn sign_at(&self, at: usize) -> Option<usize> {

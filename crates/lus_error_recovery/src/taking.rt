@@ -143,24 +143,31 @@ impl<'s> Rest<'s> {
             return Ok(false);
         };
         let at = declaration.place_at(line, column);
-        let Some(statement) = declaration.statement_at(at) else {
+        let Some(statement) = declaration.equation_at(at) else {
             return Ok(false);
         };
         let bytes = declaration.bytes_of(statement);
         declaration.is_filled = true;
         declaration.take(alloc, statement)?;
-        self.pass_over_unread(alloc, bytes)?;
+        self.pass_over_unread(alloc, place, bytes)?;
         Ok(true)
     }
 
-    /// Has what is no token between two bytes be passed over.
-    fn pass_over_unread(&mut self, alloc: Global, bytes: (usize, usize)) -> Result<(), AllocError> {
+    /// Has what is no token between two bytes of a declaration be passed over.
+    fn pass_over_unread(
+        &mut self,
+        alloc: Global,
+        place: usize,
+        bytes: (usize, usize),
+    ) -> Result<(), AllocError> {
         let (from, to) = bytes;
         let mut others = Vec::new(alloc);
         for unread in &self.unread {
             let byte = unread.span.start.byte;
             if byte < from || to <= byte {
                 others.push(*unread)?;
+            } else if let Some(declaration) = self.declarations.get_mut(place) {
+                declaration.taken.push(unread.span)?;
             }
         }
         self.unread = others;
@@ -212,7 +219,7 @@ impl<'s> Rest<'s> {
             self.written.push(Edit { byte, length, text })?;
         }
         let end = edit.byte.saturating_add(edit.length);
-        self.pass_over_unread(alloc, (edit.byte, end))?;
+        self.pass_over_unread(alloc, fault.declaration, (edit.byte, end))?;
         Ok(Some(line))
     }
 

@@ -361,10 +361,17 @@ fn parted(
     if let Some(end) = early_end(fault, openings, range) {
         let (from, to) = range;
         let (short, rest) = (fault.text_of((from, end)), fault.text_of((end, to)));
+        let sign = fault.text(end);
+        let last = fault.text_of((end.saturating_add(1), to));
+        let (open, close) = if last.starts_with("if ") {
+            ("(", ")")
+        } else {
+            ("", "")
+        };
         return Ok(Some(Mix {
             sentence: sentence_on(alloc, fault, openings)?,
             note: format!(in alloc;
-                "What stands behind its last value may belong to the `if` or not: write `({short}) {rest}` or `({short} {rest})`."
+                "What stands behind its last value may belong to the `if` or not: write `({short}) {sign} {open}{last}{close}` or `({short} {rest})`."
             )?,
             edit: None,
         }));

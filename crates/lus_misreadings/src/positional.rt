@@ -134,6 +134,17 @@ fn with_fields(
     Ok(finding.with_edit(edit))
 }
 
+/// The note on fields, whose names may not be known.
+fn note_on(alloc: Global, owner: &str, fields: &[&str]) -> Result<String, AllocError> {
+    if fields.is_empty() {
+        return format!(in alloc; "They come in any order, as in `{owner} {{ x = 1; y = 2 }}`.");
+    }
+    let mut note = String::from_str(alloc, "They come in any order: ")?;
+    push_fields(&mut note, owner, fields)?;
+    note.push('.')?;
+    Ok(note)
+}
+
 /// What is said of a structure whose fields have no names.
 pub fn positional(alloc: Global, fault: &Fault<'_>) -> Result<Option<Finding>, AllocError> {
     let Some(brace) = brace_before(fault) else {
@@ -143,14 +154,16 @@ pub fn positional(alloc: Global, fault: &Fault<'_>) -> Result<Option<Finding>, A
     let Some((items, _)) = items_in(alloc, fault, brace)? else {
         return Ok(None);
     };
-    let fields = fields_of(alloc, fault, owner)?;
-    if fields.is_empty() || !is_name(fault.tokens.get(brace.saturating_sub(1))) {
+    let have_names = items.iter().any(|(from, _)| is_any(
+        fault.text(from.saturating_add(1)),
+        &[":", "="],
+    ));
+    if have_names || !is_name(fault.tokens.get(brace.saturating_sub(1))) {
         return Ok(None);
     }
+    let fields = fields_of(alloc, fault, owner)?;
     let sentence = format!(in alloc; "the fields of `{owner}` are given by their names")?;
-    let mut note = String::from_str(alloc, "They come in any order: ")?;
-    push_fields(&mut note, owner, &fields)?;
-    note.push('.')?;
+    let note = note_on(alloc, owner, &fields)?;
     let finding = told_of_found(alloc, fault, sentence, note.as_str())?;
     Ok(Some(with_fields(alloc, fault, finding, &fields, &items)?))
 }

@@ -3,7 +3,7 @@
 use crate::fault::Fault;
 use crate::words::is_any;
 use lus_faults::{Edit, Finding, bytes_at};
-use lus_syntax::{Place, Span, place_behind};
+use lus_syntax::{Place, RefusalNumber, Span, place_behind};
 use std::alloc::{AllocError, Global};
 
 /// A comment in a source: its bytes, and whether it ends.
@@ -130,7 +130,7 @@ fn line_to_close(text: &str, limit: usize) -> Option<(usize, bool)> {
             return last;
         }
         let end = at.saturating_add(line.trim_end().len());
-        if at > 0 && line.trim_end().ends_with("*") {
+        if line.trim().ends_with("*") && line.trim().contains(" ") {
             return Some((end, true));
         }
         if !line.trim().is_empty() {
@@ -227,8 +227,8 @@ fn has_token(fault: &Fault<'_>, from: usize, to: usize) -> bool {
 /// one, whose end it is.
 pub fn swallowing(alloc: Global, fault: &Fault<'_>) -> Result<Option<Finding>, AllocError> {
     let byte = match fault.token() {
-        Some(token) => token.span.start.byte,
-        None => fault.source.len(),
+        Some(token) if fault.number == RefusalNumber::Syntax => token.span.start.byte,
+        _ => fault.source.len(),
     };
     let Some(comment) = comment_before(fault.source, byte) else {
         return Ok(None);
