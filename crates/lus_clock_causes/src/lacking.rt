@@ -4,7 +4,7 @@ use crate::clock::Tick;
 use crate::completing::{Branches, merged, type_name_of, value_of_its_type};
 use crate::mending::{Context, mended};
 use crate::placing::{Misplaced, bare};
-use crate::redeclaring::{Redeclared, declaration_of_left, may_be_declared};
+use crate::redeclaring::{Redeclared, may_be_declared};
 use lus_declarations::type_span;
 use lus_faults::{Finding, Variable, extent_of, slice_of, start_of, variable_named};
 use lus_syntax::{Expr, Name};
@@ -170,6 +170,7 @@ fn told_with(
     found: Misplaced<'_>,
     all: &[Misplaced<'_>],
     lacking: Lacking<'_>,
+    declared: Option<Redeclared<'_>>,
 ) -> Result<Finding, AllocError> {
     let mut finding = finding;
     if let Some(left) = left_of(on)
@@ -177,7 +178,7 @@ fn told_with(
         && let Some(held) = holding(alloc, on, lacking, left.text.as_str())?
     {
         let name = left.text.as_str();
-        if let Some(other) = declaration_of_left(alloc, on, left, found.has)?
+        if let Some(other) = declared
             && let Some(note) = note_on_declared(alloc, on, lacking, name, held.as_str())?
         {
             return told_of_declaration(alloc, finding, other, note);
@@ -191,13 +192,14 @@ fn told_with(
 }
 
 /// What is said of an expression that has no value at some instants of its place, and isn't remembered; the finding as it is where one
-/// test doesn't lead from the one clock to the other, or no value of its type is known.
+/// test doesn't lead from the one clock to the other, or no value of its type is known. The variable on the left may be declared otherwise.
 pub fn told_of_lacking<'t>(
     alloc: Global,
     on: Context<'t>,
     finding: Finding,
     found: Misplaced<'t>,
     all: &[Misplaced<'_>],
+    declared: Option<Redeclared<'t>>,
 ) -> Result<Finding, AllocError> {
     match (
         on.clocks.leading(found.wanted, found.has),
@@ -210,7 +212,7 @@ pub fn told_of_lacking<'t>(
                 inner: slice_of(on.source, extent_of(on.source, bare(found.expr))),
                 value,
             };
-            told_with(alloc, on, finding, found, all, lacking)
+            told_with(alloc, on, finding, found, all, lacking, declared)
         }
         _ => Ok(finding),
     }

@@ -8,14 +8,16 @@ use lus_faults::{Edit, Role, Variable, slice_of, variable_named};
 use lus_syntax::{Expr, Name};
 use std::alloc::{AllocError, Global};
 
-/// The fewest equations that a change of a declaration mends: what defines a variable, and a use.
-const FEWEST_MENDED: usize = 2;
+/// The fewest equations that a change of a declaration mends, where it is what is wrong: what defines a variable, and a use.
+pub const FEWEST_MENDED: usize = 2;
 
-/// A variable that is declared with a wrong clock, the clock that its equations agree on, and the change of its declaration.
+/// A variable that is declared with a wrong clock, the clock that its equations agree on, how many of them that mends, and the change of its
+/// declaration.
 #[derive(Drop)]
 pub struct Redeclared<'t> {
     pub name: &'t Name,
     pub clock: Clock<'t>,
+    pub mended: usize,
     pub edit: Option<Edit>,
 }
 
@@ -103,39 +105,34 @@ fn with_clock<'t>(
     Ok(Some(Redeclared {
         name: variable.name,
         clock,
+        mended: mended.max(mended_by_all),
         edit,
     }))
 }
 
-/// The variable whose declaration an expression on another clock than its place comes from: the one that its equation defines, or the
-/// expression itself.
-pub fn declaration_at_fault<'t>(
+/// The variable that an expression is, where its declaration is what is wrong if the expression is on another clock than its place.
+pub fn declaration_of_name<'t>(
     alloc: Global,
     on: Context<'t>,
     found: Misplaced<'t>,
 ) -> Result<Option<Redeclared<'t>>, AllocError> {
-    if let Some(left) = on.equation.left.first()
-        && on.equation.left.len() == 1
-    {
-        let defined = with_clock(alloc, on, left, found.has, FEWEST_MENDED)?;
-        if defined.is_some() {
-            return Ok(defined);
-        }
-    }
     match bare(found.expr) {
         Expr::Name(name) => with_clock(alloc, on, name, found.wanted, FEWEST_MENDED),
         _ => Ok(None),
     }
 }
 
-/// The variable on the left of the equation with the clock of the right side, where that mends an equation and none fails that was right.
+/// The only variable on the left of the equation with a clock of the right side, where that mends an equation and none fails that was
+/// right.
 pub fn declaration_of_left<'t>(
     alloc: Global,
     on: Context<'t>,
-    left: &'t Name,
     clock: Clock<'t>,
 ) -> Result<Option<Redeclared<'t>>, AllocError> {
-    with_clock(alloc, on, left, clock, 1)
+    match on.equation.left.first() {
+        Some(left) if on.equation.left.len() == 1 => with_clock(alloc, on, left, clock, 1),
+        _ => Ok(None),
+    }
 }
 
 /// The variable on the left of the equation, where it may have the clock of an expression that stands at a place of its own clock.

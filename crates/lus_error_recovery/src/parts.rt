@@ -3,7 +3,7 @@
 use crate::declarations::Declaration;
 use crate::passes::in_memory;
 use crate::reading::tokens_from;
-use crate::rest::Rest;
+use crate::rest::{MOST_SMALL, Rest};
 use indexmap::IndexMap;
 use lus_faults::Edit;
 use lus_syntax::{Token, TokenKind, Word};
@@ -151,7 +151,8 @@ impl Rest<'_> {
         Ok(flags)
     }
 
-    /// The tokens of a declaration that say what it declares: a node has no equations then, and locals only where all declarations are told.
+    /// The tokens of a declaration that say what it declares: a node has no equations then, and locals only where
+    /// all declarations are told and these are few bytes.
     fn declared<'p>(
         &'p self,
         alloc: Global,
@@ -161,7 +162,8 @@ impl Rest<'_> {
     ) -> Result<Vec<Token<'p>>, AllocError> {
         let tokens = self.tokens_of(alloc, place, tried)?;
         let mut declared = Vec::new(alloc);
-        declared.extend_from_slice(if beside == Beside::Declared {
+        let are_few = self.source.len() <= MOST_SMALL;
+        declared.extend_from_slice(if beside == Beside::Declared && are_few {
             front_of(&tokens)
         } else {
             head_of(&tokens)

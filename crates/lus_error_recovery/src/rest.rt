@@ -18,8 +18,8 @@ const MOST_CHECKS: usize = 2;
 
 const LEAST_TOKENS: usize = 100000;
 
-/// Up to how many bytes of a source a text has all declarations before the one that it is of.
-const MOST_SMALL: usize = 16384;
+/// Up to how many bytes of a source are few: then a text has all declarations before the one that it is of, and a tree the locals of all.
+pub(crate) const MOST_SMALL: usize = 16384;
 
 /// The most faults that are taken out.
 const MOST_TURNS: usize = 400;

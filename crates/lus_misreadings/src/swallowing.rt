@@ -141,9 +141,21 @@ fn line_to_close(text: &str, limit: usize) -> Option<(usize, bool)> {
     last
 }
 
-/// The change that closes a comment before what it should not hold.
+/// Whether nothing but blanks stands before a byte of a source on its line.
+fn begins_line(source: &str, byte: usize) -> bool {
+    let before = source.as_bytes().get(..byte).unwrap_or(&[]);
+    let mut is_blank = true;
+    for one in before {
+        is_blank = *one == b'\n' || is_blank && one.is_ascii_whitespace();
+    }
+    is_blank
+}
+
+/// The change that closes a comment before what it should not hold; none on a line on which something stands before it, which may go on
+/// behind its end.
 fn closing(
     alloc: Global,
+    source: &str,
     comment: Comment<'_>,
     swallowed: Swallowed<'_>,
 ) -> Result<Option<Edit>, AllocError> {
@@ -156,6 +168,10 @@ fn closing(
     let Some((end, has_star)) = line_to_close(comment.text, limit) else {
         return Ok(None);
     };
+    let first = comment.text.find("\n").unwrap_or(comment.text.len());
+    if end <= first && !has_star && !begins_line(source, comment.start) {
+        return Ok(None);
+    }
     let close = match (comment.text.starts_with("/"), has_star) {
         (true, true) => "/",
         (false, true) => ")",
@@ -215,7 +231,7 @@ fn told_of(
         "*)"
     };
     finding.note = Some(format!(in alloc; "Close it with `{close}` where it is to end.")?);
-    Ok(finding.with_edit(closing(alloc, comment, swallowed)?))
+    Ok(finding.with_edit(closing(alloc, source, comment, swallowed)?))
 }
 
 /// Whether a token stands between two bytes.
