@@ -1,5 +1,5 @@
 -- A line of a log is one more of those so far, or ends them.
-use Rattle.std.proofs.Common.{rules, ◌∙◌, ◌+◌, Unit, ap₂, subst, sym}
+use Rattle.std.proofs.Common.{rules, ◌∙◌, ◌+◌, ap₂, subst, sym}
 use Rattle.std.specs.Arc.{arc_value}
 use Rattle.lus_live_instance.specs.MachineSpecs.Acceptance.{IsAccepted}
 use Rattle.lus_live_instance.specs.MachineSpecs.CodeSpecs.Codes.{program_of}
