@@ -1,6 +1,10 @@
 -- A line of a log is one more of those so far, or ends them.
-use Rattle.std.proofs.Common.{rules, ◌∙◌, ◌+◌, Unit, ap₂, subst, sym}
+use Rattle.std.proofs.Common.{rules, ◌∙◌, ◌+◌, ap₂, subst, sym, Result, Ok, Err}
+use Rattle.std.specs.Prelude.{IfErr, IsErrAnd}
 use Rattle.std.specs.Arc.{arc_value}
+use Rattle.lus_lawful.specs.Errors.{BlamesIf, IsOutside}
+use Rattle.lus_lawful.specs.declared.error.AuditError.{AuditError}
+use Rattle.lus_lawful.proofs.Blames.{blames_on}
 use Rattle.lus_live_instance.specs.MachineSpecs.Acceptance.{IsAccepted}
 use Rattle.lus_live_instance.specs.MachineSpecs.CodeSpecs.Codes.{program_of}
 use Rattle.lus_hosting.specs.Audits.{FindsInLog, HasAuditedLog, Observes, wrong_log_text}
@@ -91,3 +95,21 @@ returns-in-Over-clause-complete g c =
     subst (λ b. FindsInLog p c.args.node.0 b (g.S.Source.left c.args.source.now) c.in_ok-lawful_report-in-Over.field-0.text.items) (sym made.0)
     (audited_all p accepted _ _ _ _ _ _ audited (λ lines. Unit {0}) tt _ _ _ _ _ (c.in_ok-found.ensures.found _ audited.keeps) c.in-Over.is
     c.in_ok-lawful_report-in-Over.field-0.text.items made.1).1
+
+-- out of memory no line is blamed
+outside_blames : {T : Type 0} (Q : Type 0) (r : Result T AuditError) → IsErrAnd r IsOutside → IfErr r (BlamesIf Q)
+outside_blames Q (Ok x) outside = absurd outside
+outside_blames Q (Err e) outside = λ n is. absurd (outside n is)
+
+pub returns-in_err-observe-clause-blames : goal.returns-in_err-observe-clause-blames
+returns-in_err-observe-clause-blames g c =
+    blames_on _ _ c.from_residual-in_err-observe.result c.in_err-observe.field-0.0 c.from_residual-in_err-observe.ensures.1 c.in_err-observe.ensures.outside
+    (λ never. absurd never)
+
+pub returns-in_err-wrong_report-in-Wrong-clause-blames : goal.returns-in_err-wrong_report-in-Wrong-clause-blames
+returns-in_err-wrong_report-in-Wrong-clause-blames g c =
+    outside_blames _ c.from_residual-in_err-wrong_report-in-Wrong.result c.from_residual-in_err-wrong_report-in-Wrong.ensures.1
+
+pub returns-in_err-lawful_report-in-Over-clause-blames : goal.returns-in_err-lawful_report-in-Over-clause-blames
+returns-in_err-lawful_report-in-Over-clause-blames g c =
+    outside_blames _ c.from_residual-in_err-lawful_report-in-Over.result c.from_residual-in_err-lawful_report-in-Over.ensures.1
