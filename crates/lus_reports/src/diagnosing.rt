@@ -167,6 +167,15 @@ pub fn warned_of(
     }
 }
 
+/// What it is warned of, if that is asked for.
+fn warned_if(alloc: Global, bytes: &[u8], warns: bool) -> Result<Vec<Diagnostic>, AllocError> {
+    if warns {
+        warned_of(alloc, bytes, None)
+    } else {
+        Ok(Vec::new(alloc))
+    }
+}
+
 /// What there is to say of the bytes of a program: no errors where they are accepted, and perhaps what they are warned of; or errors, of
 /// which the first has the number and the place of the refusal.
 pub fn diagnose(alloc: Global, bytes: &[u8], warns: bool) -> Result<Diagnosis, AllocError>
@@ -174,11 +183,7 @@ pub fn diagnose(alloc: Global, bytes: &[u8], warns: bool) -> Result<Diagnosis, A
 {
     match accept(alloc, bytes) {
         Ok(_nodes) => {
-            let warnings = if warns {
-                warned_of(alloc, bytes, None)?
-            } else {
-                Vec::new(alloc)
-            };
+            let warnings = warned_if(alloc, bytes, warns)?;
             Ok(Diagnosis {
                 errors: Vec::new(alloc),
                 warnings,
