@@ -68,17 +68,15 @@ Status: 0 valid, 1 the program is rejected, 2 a wrong line, or no journal,
 3 a file or the output fails, 4 out of memory.
 ";
 
-const LIVE: &str = "usage: lus_live [--caller NAME] PROGRAM NODE [JOURNAL]
-       lus_live --json | --csv PROGRAM NODE [[--caller NAME] [--sync] JOURNAL]
+const LIVE: &str = "usage: lus_live [--json | --csv] [--caller NAME] [--sync] PROGRAM NODE [JOURNAL]
        lus_live --many [--json] PROGRAM NODE [[--caller NAME] [--sync] LOG]
 
 Runs a node in a pipe: reads calls from standard input, a line of JSON each, and writes the
 journal's entry of each, by the caller NAME or `user`, before it reads the next; with --json its
 reply as JSON. With --csv it reads inputs as CSV below a line of their names, and writes outputs
 so. It goes on behind JOURNAL, replayed first: `lus_live PROGRAM NODE log < calls >> log`, also
-after any kill; with --json or --csv it writes each entry to JOURNAL itself, and then the reply, as
-with --many to LOG, with --sync to its disk. A line of --many is INSTANCE CALLER CALL, or an old
-entry.
+after any kill; with --json or --csv it writes entries to JOURNAL itself, then replies, as --many
+to LOG, with --sync once on its disk. A line of --many is INSTANCE CALLER CALL, or an old entry.
 
   [18, 19, 22]                 a step with the inputs in their order, null for an absent one
   {\"inputs\": {\"low\": 19, ..}}  a step with the inputs by their names

@@ -44,7 +44,8 @@ fn read_node_head<S: Source, F: Sink>(
         (option_map (λ h. map string_bytes h.keys) o)) }
 {
     let columns = node_columns(alloc, program, node)?;
-    read_head(alloc, &columns, input, faults)
+    let inputs = all_columns(alloc, program.source(), program.inputs(node))?;
+    read_head(alloc, &columns, &inputs, input, faults)
 }
 
 /// Writes the head of a node's outputs, all of it or a beginning.
