@@ -22,6 +22,7 @@ use Rattle.lus_cli.proofs.ProgramLemmas.{file_then}
 use Rattle.lus_live.specs.CommandLine.{Asked, writes_file}
 use Rattle.lus_live.specs.Ends.{AsksBehind, Begins, HasPlayed, IsBeginFault, IsOpened, IsRecovered, IsRecoveryFault, LiveFails, LogStays, Ran, StaysIn, TaskEnds, Tells, parties_of, recovery_fault}
 use Rattle.lus_live.specs.declared.words.Form.{Form}
+use Rattle.lus_live.specs.declared.words.Form.TheVariants.{Journal, Json, Csv}
 
 -- what was recovered of a file that was opened is recovered of its bytes
 pub recovered_file : (start : Start) (p : Program) (names : Names) (name : Text) (known : Known) (left ahead : Option Bytes) (new h : List Entry)
@@ -70,6 +71,15 @@ pub begin_fails : (read_fails : Known → Type 0) (file : Known) (name : Text) (
 begin_fails read_fails file name None f p node accepted named fault = subst (LiveFails read_fails file name None) (sym fault) tt
 begin_fails read_fails file name (Some journal) f p node accepted named fault =
     journal_fails read_fails file name journal f (p, node, accepted, named) fault
+
+unopened : (form : Form) (opens : Text → Type 0) → IsOpened (writes_file form None) opens None
+unopened Journal opens = tt
+unopened Json opens = tt
+unopened Csv opens = tt
+
+-- without a file's journal no log is opened
+pub none_opened : (form : Form) (opens : Text → Type 0) (file : Option Text) → file ≡ None → IsOpened (writes_file form file) opens file
+none_opened form opens file none = subst (λ k. IsOpened (writes_file form k) opens k) (sym none) (unopened form opens)
 
 -- what was told of a log is told of one that had taken the same
 pub told_of : (form : Form) (file : Option Text) (was_synced : Safety) (p : Program) (f : ℕ) (asked : Asked) (start : Start) (left end : Option Bytes)
