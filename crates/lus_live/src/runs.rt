@@ -54,15 +54,17 @@ pub(crate) fn run<J: Writes, S: Source, L: Log, O: Syncs, F: Sink>(
     } = begun;
     let reactor = &mut instance;
     let is_synced = task.is_synced;
+    let source = program.source();
+    let names = program.names();
     let calls = JsonCalls {
         alloc,
-        program: program.source(),
-        names: program.names(),
+        program: source,
+        names,
         node,
     };
     let replies = JsonReplies {
-        program: program.source(),
-        names: program.names(),
+        program: source,
+        names,
         outputs: program.outputs(node),
     };
     let mut none = Nowhere;

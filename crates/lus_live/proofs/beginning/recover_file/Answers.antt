@@ -13,4 +13,7 @@ returns-clause-fault g c = subst IsRecoveryFault (sym c.refuse.ensures.fault) (r
 pub returns-in-Ok-recover-clause-recovered : goal.returns-in-Ok-recover-clause-recovered
 returns-in-Ok-recover-clause-recovered g c =
     let named : c.names.result.now ≡ names_of (program_of (arc_value c.args.program.now)) = search rules in
-    recovered_file _ _ _ _ _ _ _ _ _ c.in-Ok.ensures.opened c.new-source.ensures c.in_ok-begin_new.ensures.empty named c.in-Ok-recover.ensures.recovered
+    recovered_file _ (program_of (arc_value c.args.program.now)) _ _ _ _ _ _ _ c.in-Ok.ensures.opened c.new-source.ensures c.in_ok-instance.ensures.empty named c.in-Ok-recover.ensures.recovered
+
+pub returns-in-Ok-recover-clause-live : goal.returns-in-Ok-recover-clause-live
+returns-in-Ok-recover-clause-live g c = c.recover.ensures.same _ _ c.in_ok-instance.ensures.live

@@ -48,6 +48,6 @@ returns-clause-some g c =
     let those : map variable_of c.outputs-outputs.result.now ≡ outputs_of (node_at p c.args.node.0) = search rules in
     on_err_weaker c.drive.result
     (table_told_some p (program_seen c.source-source.result.now) c.names-names.result.now _ (map variable_of c.inputs-inputs.result.now)
-    (map variable_of c.outputs-outputs.result.now) (map string_bytes c.in-Some.head.keys) same named given those _ (c.drive.ensures.same _ _ c.requires.live) _ _ _ _ _ _ _ _ _ _ _ _
+    (map variable_of c.outputs-outputs.result.now) (map string_bytes c.in-Some.head.keys) same named given those _ (c.drive.ensures.same _ _ c.requires.live) _ _ _ _ _ None _ _ _ _ _ _
     headed c.in_ok-write_outputs_head.ensures.whole)
     c.drive.ensures.some
