@@ -27,7 +27,7 @@ form_of is_json false denies = Some (record { is_json = is_json; warns = true; d
 
 -- where scripts to begin from are asked for there are no others, and nothing is said of the form
 abbrev pub chosen : Bool → Bool → Bool → Option Text → Option Text → Option Text → Option Asked
-chosen is_json is_quiet denies script None scripts = None
+chosen is_json is_quiet denies asked_node None scripts = None
 chosen is_json is_quiet denies None (Some program) scripts = option_map (λ form. explain form program scripts) (form_of is_json is_quiet denies)
 chosen false false false (Some node) (Some program) None = Some (script node program)
 chosen false false false (Some node) (Some program) (Some scripts) = None
