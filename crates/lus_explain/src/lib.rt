@@ -1,5 +1,5 @@
-//! `lus_explain [--json] [--no-warnings | --deny-warnings] PROGRAM [SCRIPTS]` says why a program or its scripts are refused, or which nodes a
-//! program has, and what it is warned of; and `lus_explain --script NODE PROGRAM` writes scripts to begin from.
+//! `lus_explain [--json] [--no-warnings | --deny-warnings] PROGRAM [SCRIPTS]` says why a program or its scripts are refused, or which nodes
+//! a program has, and what it is warned of; and `lus_explain --script NODE PROGRAM` writes scripts to begin from.
 #![tactic(auto)]
 
 mod judging;

@@ -12,7 +12,8 @@ use lus_reports::lus_cli::{
 };
 use std::alloc::{AllocError, Global};
 
-/// How things are said: as JSON or as a text for people; with warnings or without; and whether a warning is denied, as the status then tells.
+/// How things are said: as JSON or as a text for people; with warnings or without; and whether a warning is denied, as the status then
+/// tells.
 #[derive(Clone, Copy)]
 pub struct Form {
     pub is_json: bool,
