@@ -90,7 +90,11 @@ fn with_clock<'t>(
     let group = variable.group;
     let one = alone(group, name.text.as_str());
     let mended = mended_with(alloc, on.clocks, &before, one, clock)?;
-    let mended_by_all = mended_with(alloc, on.clocks, &before, group.names.as_slice(), clock)?;
+    let mended_by_all = if group.names.len() == 1 {
+        mended
+    } else {
+        mended_with(alloc, on.clocks, &before, group.names.as_slice(), clock)?
+    };
     if mended < fewest && mended_by_all < fewest {
         return Ok(None);
     }

@@ -3,7 +3,7 @@
 use crate::edits::edit_at;
 use crate::fault::{Fault, Range};
 use crate::gate::{about_marks, words_in};
-use crate::pattern::operand_end;
+use crate::ifs::{early_end, note_on_end};
 use crate::places::is_equated;
 use crate::trial::token_of;
 use crate::words::{EQUALITIES, ORDERS, RECKONERS, compares, is_any, is_infix, leads};
@@ -320,33 +320,6 @@ fn sentence_on(alloc: Global, fault: &Fault<'_>, openings: &[usize]) -> Result<S
     }
 }
 
-/// Where the last operand of an `if` ends, if an operator goes on behind it that binds no closer than the one before the `if`: then what
-/// follows may not belong to the `if`.
-fn early_end(fault: &Fault<'_>, openings: &[usize], range: Range) -> Option<usize> {
-    let (from, to) = range;
-    if !is_any(fault.text(from), &["if"]) || from != fault.place {
-        return None;
-    }
-    let mut depth = 0usize;
-    let mut open = 0usize;
-    for place in from..to {
-        match fault.text(place) {
-            "(" | "{" => depth = depth.saturating_add(1),
-            ")" | "}" => depth = depth.saturating_sub(1),
-            "if" if depth == 0 => open = open.saturating_add(1),
-            "else" if depth == 0 && open > 1 => open = open.saturating_sub(1),
-            "else" if depth == 0 => {
-                let end = operand_end(fault, place.saturating_add(1));
-                let lead = strength_behind(lead_of(fault, nearest(openings)))?;
-                let behind = strength_behind(fault.text(end))?;
-                return (end < to && behind <= lead).then_some(end);
-            }
-            _ => {}
-        }
-    }
-    None
-}
-
 /// What is said of operators that parentheses round some tokens part.
 fn parted(
     alloc: Global,
@@ -358,21 +331,10 @@ fn parted(
         return Ok(None);
     };
     let inner = fault.text_of(range);
-    if let Some(end) = early_end(fault, openings, range) {
-        let (from, to) = range;
-        let (short, rest) = (fault.text_of((from, end)), fault.text_of((end, to)));
-        let sign = fault.text(end);
-        let last = fault.text_of((end.saturating_add(1), to));
-        let (open, close) = if last.starts_with("if ") {
-            ("(", ")")
-        } else {
-            ("", "")
-        };
+    if let Some(end) = early_end(fault, lead_of(fault, nearest(openings)), range) {
         return Ok(Some(Mix {
             sentence: sentence_on(alloc, fault, openings)?,
-            note: format!(in alloc;
-                "What stands behind its last value may belong to the `if` or not: write `({short}) {sign} {open}{last}{close}` or `({short} {rest})`."
-            )?,
+            note: note_on_end(alloc, fault, range, end)?,
             edit: None,
         }));
     }

@@ -69,7 +69,16 @@ fn swallowed_by(comment: Comment<'_>) -> Swallowed<'_> {
     }
 }
 
-/// The last comment of several lines that ends before a byte, or is open there.
+/// The comment of a source from a byte on, up to the one behind its end, if it has one.
+fn comment_at(source: &str, start: usize, end: Option<usize>) -> Comment<'_> {
+    Comment {
+        start,
+        text: bytes_at(source, start, end.unwrap_or(source.len())).unwrap_or(""),
+        is_closed: end.is_some(),
+    }
+}
+
+/// The last comment between signs that ends before a byte, or is open there.
 fn comment_before(source: &str, byte: usize) -> Option<Comment<'_>> {
     let bytes = source.as_bytes();
     let (mut open, mut is_line, mut passed) = (None, false, 0usize);
@@ -78,38 +87,28 @@ fn comment_before(source: &str, byte: usize) -> Option<Comment<'_>> {
         if at >= byte && open.is_none() {
             return found;
         }
-        let next = bytes.get(at.saturating_add(1)).copied().unwrap_or(b' ');
         if at < passed {
             continue;
         }
+        let next = bytes.get(at.saturating_add(1)).copied().unwrap_or(b' ');
+        let behind = at.saturating_add(2);
         if let Some((start, close)) = open {
             if *one == b'*' && next == close {
-                let end = at.saturating_add(2);
-                let text = bytes_at(source, start, end).unwrap_or("");
-                found = Some(Comment {
-                    start,
-                    text,
-                    is_closed: true,
-                });
+                found = Some(comment_at(source, start, Some(behind)));
                 open = None;
-                passed = end;
+                passed = behind;
             }
         } else if is_line {
             is_line = *one != b'\n';
         } else if *one == b'-' && next == b'-' {
             is_line = true;
         } else if next == b'*' && (*one == b'/' || *one == b'(') {
-            let close = if *one == b'/' { b'/' } else { b')' };
-            open = Some((at, close));
-            passed = at.saturating_add(2);
+            open = Some((at, if *one == b'/' { b'/' } else { b')' }));
+            passed = behind;
         }
     }
     match open {
-        Some((start, _)) => Some(Comment {
-            start,
-            text: bytes_at(source, start, source.len()).unwrap_or(""),
-            is_closed: false,
-        }),
+        Some((start, _)) => Some(comment_at(source, start, None)),
         None => found,
     }
 }

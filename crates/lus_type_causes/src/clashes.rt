@@ -145,6 +145,17 @@ fn branches<'t>(
     })
 }
 
+/// What is said of a condition that a sum or a product has as an operand, with numbers in the place of all of its equation.
+fn counted_up<'t>(given: Given<'t>, said: Said<'t>, expr: &'t Expr) -> Said<'t> {
+    match (expr, given.equation_with(expr)) {
+        (Expr::Binary(Infix::Compute(_), _, _), Some(equation)) => Said {
+            repair: Some(Repair::Numbers(&equation.right)),
+            ..said
+        },
+        _ => said,
+    }
+}
+
 /// An operand of another type than its operator wants.
 fn wrong_operand<'t>(
     given: Given<'t>,
@@ -169,15 +180,9 @@ fn wrong_operand<'t>(
             ..said
         });
     }
-    if wanted.kind == Kind::Int
-        && found == Kind::Bool
-        && matches!(expr, Expr::Binary(Infix::Compute(_), _, _))
-        && let Some(equation) = given.equation_with(expr)
-    {
-        return Some(Said {
-            repair: Some(Repair::Numbers(&equation.right)),
-            ..said.suspecting(operand, wanted.kind)
-        });
+    let said = said.suspecting(operand, wanted.kind);
+    if wanted.kind == Kind::Int && found == Kind::Bool {
+        return Some(counted_up(given, said, expr));
     }
     match operand {
         Expr::Name(name) if wanted.kind == Kind::Bool && found == Kind::Int => Some(Said {
@@ -187,9 +192,9 @@ fn wrong_operand<'t>(
                 ..words
             },
             repair: Some(Repair::Compared(name.span, matches!(expr, Expr::Unary(_, _, _)))),
-            ..said.suspecting(operand, wanted.kind)
+            ..said
         }),
-        _ => Some(said.suspecting(operand, wanted.kind)),
+        _ => Some(said),
     }
 }
 

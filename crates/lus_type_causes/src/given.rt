@@ -34,9 +34,12 @@ impl<'t> Given<'t> {
     /// The equation whose right side has an expression in it.
     pub fn equation_with(self, expr: &Expr) -> Option<&'t Equation> {
         let byte = start_of(expr).byte;
+        let mut start = 0;
         let mut found = None;
         for equation in self.equations() {
-            if start_of(&equation.right).byte <= byte {
+            let own = start_of(&equation.right).byte;
+            if start <= own && own <= byte {
+                start = own;
                 found = Some(equation);
             }
         }

@@ -12,7 +12,9 @@ use crate::said::{Said, Words};
 use lus_faults::{extent_of, label_span};
 use lus_program::Kind;
 use lus_source::Member;
-use lus_syntax::{Expr, Fields, Group, Infix, Lead, Name, NodeKind, Part, Prefix, Span, Tree};
+use lus_syntax::{
+    Expr, Fields, Group, Infix, Lead, Name, Node, NodeKind, Part, Prefix, Span, Tree,
+};
 
 /// Whether another input has the type of the one of a number, so that which of the two an argument is for isn't known.
 fn is_ambiguous(inputs: &[Group], number: usize, count: usize) -> bool {
@@ -30,6 +32,14 @@ fn is_ambiguous(inputs: &[Group], number: usize, count: usize) -> bool {
     false
 }
 
+/// The input that a call lacks, where its type tells which one that is.
+fn told_of(node: &Node, number: usize, missing: Option<Member>) -> Option<Member> {
+    match missing {
+        Some(found) if is_ambiguous(&node.inputs, found.number, number) => None,
+        found => found,
+    }
+}
+
 /// A call with another count of arguments than inputs.
 pub fn arguments<'t>(
     given: Given<'t>,
@@ -40,10 +50,7 @@ pub fn arguments<'t>(
     missing: Option<Member>,
 ) -> Option<Said<'t>> {
     let node = given.called(name)?;
-    let lacking = match missing {
-        Some(found) if is_ambiguous(&node.inputs, found.number, number) => None,
-        found => found,
-    };
+    let lacking = told_of(node, number, missing);
     let lacks = lacking.unwrap_or(Member {
         number: 0,
         kind: Kind::Bool,
@@ -65,12 +72,9 @@ pub fn arguments<'t>(
         },
         ..given.words(lacks.kind, lacks.kind)
     };
+    let own = Some(&node.name);
     Some(Said {
-        declared: if lacking.is_some() {
-            input
-        } else {
-            Some(&node.name)
-        },
+        declared: if lacking.is_some() { input } else { own },
         listed: lacking.is_none().then_some(Listed::Inputs(node, parts)),
         ..Said::of(row, name.span, words)
     })
@@ -206,6 +210,71 @@ fn row_on_branch<'t>(
     ("placed", "")
 }
 
+/// A field that stands never, or more than once, in a structure with these parts.
+fn counted_field<'t>(
+    given: Given<'t>,
+    owner: &'t Name,
+    parts: &'t [Part],
+    of: Member,
+    count: usize,
+) -> Option<Said<'t>> {
+    let groups = fields(given.tree, of.kind);
+    let field = field_at(groups, of.number)?;
+    let row = if count == 0 { "unset" } else { "reset" };
+    let words = Words {
+        member: &field.text,
+        count,
+        ..given.words(of.kind, of.kind)
+    };
+    let said = Said {
+        declared: Some(field),
+        ..Said::of(row, owner.span, words)
+    };
+    match parts.last() {
+        Some(last) if count == 0 && may_be_completed(given.tree, groups, parts) => {
+            let end = extent_of(given.source, &last.value).end().byte;
+            Some(Said {
+                advice: "completed",
+                repair: Some(Repair::Fields(end, groups, parts)),
+                ..said
+            })
+        }
+        _ => Some(said),
+    }
+}
+
+/// A branch that stands never, or more than once, in a `merge` of a variable, whose other branches have a type.
+fn counted_branch<'t>(
+    given: Given<'t>,
+    span: Span,
+    variable: &'t Name,
+    lacking: Lacking<'t>,
+    words: Words<'t>,
+    of: Kind,
+) -> Said<'t> {
+    let row = if words.count == 0 {
+        "missing"
+    } else {
+        "repeated"
+    };
+    let said = Said::of(row, span, words);
+    if words.count > 0 || lacking.value.is_empty() {
+        return said;
+    }
+    let (advice, own) = row_on_branch(given, span, of, words.member);
+    Said {
+        advice,
+        words: Words {
+            first: lacking.value,
+            own,
+            other: &variable.text,
+            ..words
+        },
+        repair: Some(Repair::Branches(lacking)),
+        ..said
+    }
+}
+
 /// A field or a branch that stands never, or more than once.
 pub fn counted<'t>(
     given: Given<'t>,
@@ -214,42 +283,13 @@ pub fn counted<'t>(
     count: usize,
     first: Option<Kind>,
 ) -> Option<Said<'t>> {
-    let words = given.words(of.kind, first.unwrap_or(of.kind));
     match expr {
-        Expr::Structure(owner, parts) => {
-            let groups = fields(given.tree, of.kind);
-            let field = field_at(groups, of.number)?;
-            let row = if count == 0 { "unset" } else { "reset" };
-            let words = Words {
-                member: &field.text,
-                count,
-                ..words
-            };
-            let said = Said {
-                declared: Some(field),
-                ..Said::of(row, owner.span, words)
-            };
-            match parts.last() {
-                Some(last) if count == 0 && may_be_completed(given.tree, groups, parts) => Some(
-                    Said {
-                        advice: "completed",
-                        repair: Some(Repair::Fields(
-                            extent_of(given.source, &last.value).end().byte,
-                            groups,
-                            parts,
-                        )),
-                        ..said
-                    },
-                ),
-                _ => Some(said),
-            }
-        }
+        Expr::Structure(owner, parts) => counted_field(given, owner, parts, of, count),
         Expr::Merge(span, variable, parts) => {
-            let row = if count == 0 { "missing" } else { "repeated" };
             let words = Words {
                 member: label_at(given.tree, of.kind, of.number),
                 count,
-                ..words
+                ..given.words(of.kind, first?)
             };
             let lacking = Lacking {
                 end: extent_of(given.source, expr).end().byte,
@@ -257,22 +297,7 @@ pub fn counted<'t>(
                 constructors: constructors(given.tree, of.kind),
                 value: value(given.tree, first?).unwrap_or(""),
             };
-            let said = Said::of(row, *span, words);
-            if count > 0 || lacking.value.is_empty() {
-                return Some(said);
-            }
-            let (advice, own) = row_on_branch(given, *span, of.kind, words.member);
-            Some(Said {
-                advice,
-                words: Words {
-                    first: lacking.value,
-                    own,
-                    other: &variable.text,
-                    ..words
-                },
-                repair: Some(Repair::Branches(lacking)),
-                ..said
-            })
+            Some(counted_branch(given, *span, variable, lacking, words, of.kind))
         }
         _ => None,
     }
