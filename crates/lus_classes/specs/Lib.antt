@@ -12,3 +12,4 @@ pub mod Parts
 pub mod Instants
 pub mod Turns
 pub mod Passing
+pub mod Variables

@@ -24,11 +24,18 @@ abbrev pub GivesSome : ℕ → Step → Type 0
 GivesSome count (Give x d) = Unit {0}
 GivesSome count (Call n ts) = (n < count) × (0 < length ts.items)
 
--- each step of a class reads what is known before it and gives what isn't; and each call is made
+-- each call is made by one step alone
+abbrev pub AreOnce : List Step → Type 0
+AreOnce [] = Unit {0}
+AreOnce (Give x d ∷ ss) = AreOnce ss
+AreOnce (Call n ts ∷ ss) = (AreMaking n ss → ⊥) × AreOnce ss
+
+-- each step of a class reads what is known before it and gives what isn't; and each call is made, once
 pub record HasTurns (c : Class) : Type 0 where
   pub turns : InTurn (class_of c) (steps_of c.steps.items) (λ x. nat_lt x c.inputs)
   pub given : Each (GivesSome (length c.calls.items)) c.steps.items
   pub every : (n : ℕ) → n < length c.calls.items → AreMaking n c.steps.items
+  pub once : AreOnce c.steps.items
 
 -- a class can be run
 pub record IsReady (classes : List Class) (c : Class) : Type 0 where

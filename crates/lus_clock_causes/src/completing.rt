@@ -143,10 +143,10 @@ fn constructors_of<'t>(clocks: Clocks<'t>, tick: Tick<'_>) -> Option<&'t [Name]>
 }
 
 /// The change of a source that completes an expression by a `merge`, where it isn't remembered and its type is known.
-pub fn completed(
+pub fn completed<'t>(
     alloc: Global,
-    source: &str,
-    clocks: Clocks<'_>,
+    source: &'t str,
+    clocks: Clocks<'t>,
     equation: &Equation,
     found: Misplaced<'_>,
     tick: Tick<'_>,

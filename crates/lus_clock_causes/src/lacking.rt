@@ -162,6 +162,31 @@ fn note_on_whole(
     )
 }
 
+/// What is said where the variable on the left, of this name, can hold the last value, as it is told here: that it is declared on the other
+/// clock, where that is known to mend more, and else how it holds the value.
+fn told_of_held(
+    alloc: Global,
+    on: Context<'_>,
+    finding: Finding,
+    found: Misplaced<'_>,
+    all: &[Misplaced<'_>],
+    lacking: Lacking<'_>,
+    declared: Option<Redeclared<'_>>,
+    name: &str,
+    held: &str,
+) -> Result<Finding, AllocError> {
+    let note = note_on_declared(alloc, on, lacking, name, held)?;
+    match (declared, note) {
+        (Some(other), Some(note)) => told_of_declaration(alloc, finding, other, note),
+        _ => {
+            let mut finding = finding;
+            finding.note = Some(note_on_whole(alloc, lacking, name, held)?);
+            finding.edit = mended(alloc, on, found, all)?;
+            Ok(finding)
+        }
+    }
+}
+
 /// What is said of an expression that has no value at some instants of its place, where a value of its type is known.
 fn told_with(
     alloc: Global,
@@ -172,21 +197,25 @@ fn told_with(
     lacking: Lacking<'_>,
     declared: Option<Redeclared<'_>>,
 ) -> Result<Finding, AllocError> {
-    let mut finding = finding;
     if let Some(left) = left_of(on)
         && is_right(on, found)
         && let Some(held) = holding(alloc, on, lacking, left.text.as_str())?
     {
         let name = left.text.as_str();
-        if let Some(other) = declared
-            && let Some(note) = note_on_declared(alloc, on, lacking, name, held.as_str())?
-        {
-            return told_of_declaration(alloc, finding, other, note);
-        }
-        finding.note = Some(note_on_whole(alloc, lacking, name, held.as_str())?);
-    } else {
-        finding.note = Some(note_on_part(alloc, on, found, lacking)?);
+        return told_of_held(
+            alloc,
+            on,
+            finding,
+            found,
+            all,
+            lacking,
+            declared,
+            name,
+            held.as_str(),
+        );
     }
+    let mut finding = finding;
+    finding.note = Some(note_on_part(alloc, on, found, lacking)?);
     finding.edit = mended(alloc, on, found, all)?;
     Ok(finding)
 }

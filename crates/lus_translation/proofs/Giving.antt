@@ -1,16 +1,33 @@
 -- One more step, call or clock.
-use Rattle.std.proofs.Common.{◌≡◌, ◌∙◌, ℕ, ◌+◌, List, [], ◌∷◌, ◌++◌, map, length, refl, sym, ap, append_assoc, append-nil}
+use Rattle.std.proofs.Common.{◌≡◌, ◌∙◌, ℕ, ◌+◌, ◌<◌, List, [], ◌∷◌, ◌++◌, map, length, refl, sym, ap, arith, append_assoc, append-nil}
 use Rattle.std.proofs.lemmas.List.{length-append, length-map, map-append}
 use Rattle.lus_program.specs.Programs.{Expression, literal, Program}
 use Rattle.lus_streams.specs.Clocks.{Clock}
 use Rattle.lus_classes.specs.Classes.{Code, Step, Call}
 use Rattle.lus_instructions.specs.declared.class.Step.{Step as StoredStep}
-use Rattle.lus_classes.specs.View.{steps_in, steps_of}
-use Rattle.lus_translation.specs.Forms.{call_first, code_form, given_steps, kept_cells, kept_firsts}
+use Rattle.lus_instructions.specs.declared.class.Step.TheVariants as steps
+use Rattle.lus_instructions.specs.declared.class.Target.{Target}
+use Rattle.lus_classes.specs.View.{steps_in, steps_of, taken}
+use Rattle.lus_translation.specs.Forms.{call_first, calls_with, code_form, given_steps, kept_cells, kept_firsts}
+use Rattle.lus_translation.specs.Making.{calls_made}
 
 pub steps_pushed : (ss : List StoredStep) (s : StoredStep) → steps_of (ss ++ s ∷ []) ≡ steps_of ss ++ steps_in s
 steps_pushed [] s = append-nil (steps_in s)
 steps_pushed (r ∷ ss) s = ap (λ l. steps_in r ++ l) (steps_pushed ss s) ∙ sym (append_assoc (steps_in r) (steps_of ss) (steps_in s))
+
+pub made_pushed : (ss : List StoredStep) (s : StoredStep) → calls_made (ss ++ s ∷ []) ≡ calls_made ss ++ calls_made (s ∷ [])
+made_pushed [] s = refl
+made_pushed (steps.Give x d ∷ ss) s = made_pushed ss s
+made_pushed (steps.Call n ts ∷ ss) s = ap (λ l. n ∷ l) (made_pushed ss s)
+
+-- a call is made where there is a target
+pub call_with : (made : List ℕ) (n : ℕ) (ts : List Target) → 0 < length ts → calls_with made n (map (taken n) ts) ≡ made ++ n ∷ []
+call_with made n [] some = absurd (omega arith)
+call_with made n (t ∷ ts) some = refl
+
+pub no_call_with : (made : List ℕ) (n : ℕ) (ts : List Target) → length ts ≡ 0 → calls_with made n (map (taken n) ts) ≡ made
+no_call_with made n [] none = refl
+no_call_with made n (t ∷ ts) none = absurd (omega (arith, none))
 
 pub first_before : (p : Program) (e : Expression) (k : Clock) (qs : List Call) → call_first p e k qs ≡ call_first p e k [] ++ qs
 first_before p (literal v) k qs = refl

@@ -16,7 +16,8 @@ use Rattle.lus_classes.specs.View.{code_of, steps_of}
 use Rattle.lus_translation.specs.declared.kept.Kept.{Kept}
 use Rattle.lus_translation.specs.declared.steps.Built.{Built}
 use Rattle.lus_translation.specs.declared.turn.Turn.{Turn as StoredTurn}
-use Rattle.lus_translation.specs.Forms.{all_cells, all_firsts, all_steps, arguments_form, call_first, calls_form, cells_at, class_form, code_form, codes_form, equation_steps, firsts_at, given_steps, numbers_form, steps_at, turn_steps, one_clock}
+use Rattle.lus_translation.specs.Forms.{all_calls, all_cells, all_firsts, all_steps, arguments_form, call_first, calls_at, calls_form, cells_at, class_form, code_form, codes_form, equation_calls, equation_steps, firsts_at, given_steps, numbers_form, steps_at, turn_calls, turn_steps, one_clock}
+use Rattle.lus_translation.specs.Making.{calls_made}
 use Rattle.lus_translation.specs.Newest.{call_seen, cell_seen, newest, tested_call, tested_memory}
 use Rattle.lus_translation.specs.View.{turn_of}
 
@@ -80,7 +81,23 @@ turn_from p b number q k xs = turn_steps (program_seen p) (next_cell b.kept) (ne
 abbrev pub steps_for : StoredProgram → StoredNode → Built → (number : ℕ) → StoredEquation → List ℕ → List Step
 steps_for p f b number q xs = equation_steps (program_seen p) (node_of f) (next_cell b.kept) (next_first b.kept) number (Some q) xs
 
+-- these calls are made then
+abbrev pub MakesCalls : Built → List ℕ → Type 0
+MakesCalls new ns = calls_made new.steps.items ≡ ns
+
+abbrev pub turn_calls_from : StoredProgram → Built → (number : ℕ) → StoredEquation → List ℕ → List ℕ
+turn_calls_from p b number q xs = turn_calls (program_seen p) (calls_made b.steps.items) number (expression_of q.right) q.targets.items xs
+
+abbrev pub calls_for : StoredProgram → Built → (number : ℕ) → StoredEquation → List ℕ → List ℕ
+calls_for p b number q xs = equation_calls (program_seen p) (calls_made b.steps.items) number (Some q) xs
+
 module _ (p : StoredProgram) (f : StoredNode) (numbers : List ℕ) where
+  abbrev pub calls_in_turn : Built → StoredTurn → List ℕ
+  calls_in_turn b t = calls_at (program_seen p) (node_of f) f.equations.items numbers (calls_made b.steps.items) (turn_of t)
+
+  abbrev pub calls_in_turns : Built → List StoredTurn → List ℕ
+  calls_in_turns b ts = all_calls (program_seen p) (node_of f) f.equations.items numbers (calls_made b.steps.items) (map turn_of ts)
+
   abbrev pub steps_in_turn : Built → StoredTurn → List Step
   steps_in_turn b t = steps_at (program_seen p) (node_of f) f.equations.items numbers (next_cell b.kept) (next_first b.kept) (turn_of t)
 
@@ -102,3 +119,7 @@ module _ (p : StoredProgram) (f : StoredNode) (numbers : List ℕ) where
 -- the class of a node whose equations have these turns
 abbrev pub class_from : StoredProgram → StoredNode → List StoredTurn → Class
 class_from p f ts = class_form (program_seen p) (node_of f) f.equations.items (numbers_form 0 f.equations.items) (map turn_of ts)
+
+-- and the calls that its steps make
+abbrev pub class_calls : StoredProgram → StoredNode → List StoredTurn → List ℕ
+class_calls p f ts = all_calls (program_seen p) (node_of f) f.equations.items (numbers_form 0 f.equations.items) [] (map turn_of ts)

@@ -3,11 +3,12 @@
 ghost use Rattle.std.specs.Prelude.{◌≡◌, Some, [], IfOk, OnOk, length};
 ghost use Rattle.lus_program.specs.View.{node_of};
 ghost use Rattle.lus_values.specs.Lists.{Each};
-ghost use Rattle.lus_classes.specs.Parts.{AreParts};
-ghost use Rattle.lus_translation.specs.Making.{GivesAny};
+ghost use Rattle.lus_classes.specs.Parts.{ArePartsOf};
+ghost use Rattle.lus_translation.specs.Making.{GivesAny, calls_made};
 ghost use Rattle.lus_translation.specs.Newest.{HasNewest};
+ghost use Rattle.lus_translation.specs.NextPart.{KeepsOwn};
 ghost use Rattle.lus_translation.specs.Forms.{equation_cells, equation_firsts};
-ghost use Rattle.lus_translation.specs.Building.{AddsCells, AddsFirsts, Adds, steps_for, steps_in_turn, cells_in_turn, firsts_in_turn, steps_in_turns, cells_in_turns, firsts_in_turns, class_from};
+ghost use Rattle.lus_translation.specs.Building.{AddsCells, AddsFirsts, Adds, MakesCalls, calls_for, calls_in_turn, calls_in_turns, class_calls, class_from, steps_for, steps_in_turn, cells_in_turn, firsts_in_turn, steps_in_turns, cells_in_turns, firsts_in_turns};
 
 use crate::calls::{calls_of, clock_of_equation, numbers_of, tests_of};
 use crate::flat_code::parts_of;
@@ -33,6 +34,7 @@ fn make_equation(
     ensures cells { OnOk result (AddsCells built.old built.new (equation_cells (node_of node.now) (Some equation.now) variables.now)) }
     ensures firsts { OnOk result (AddsFirsts built.old built.new (equation_firsts (node_of node.now) (Some equation.now) variables.now)) }
     ensures given { OnOk result (Each GivesAny built.old.steps.items → Each GivesAny built.new.steps.items) }
+    ensures made { OnOk result (MakesCalls built.new (calls_for program.now built.old number equation.now variables.now)) }
 {
     let clock = clock_of_equation(alloc, node, equation)?;
     give_turn(alloc, program, equation, &clock, number, variables, built)?;
@@ -53,6 +55,7 @@ fn make_turn(
     ensures cells { OnOk result (AddsCells built.old built.new (cells_in_turn program.now node.now numbers.now turn.now)) }
     ensures firsts { OnOk result (AddsFirsts built.old built.new (firsts_in_turn program.now node.now numbers.now turn.now)) }
     ensures given { OnOk result (Each GivesAny built.old.steps.items → Each GivesAny built.new.steps.items) }
+    ensures made { OnOk result (MakesCalls built.new (calls_in_turn program.now node.now numbers.now built.old turn.now)) }
 {
     match node.equations.get(turn.equation) {
         Some(equation) => {
@@ -85,6 +88,7 @@ fn make_turns(
     ensures cells { OnOk result (AddsCells built.old built.new (cells_in_turns program.now node.now numbers.now turns.now)) }
     ensures firsts { OnOk result (AddsFirsts built.old built.new (firsts_in_turns program.now node.now numbers.now turns.now)) }
     ensures given { OnOk result (Each GivesAny built.old.steps.items → Each GivesAny built.new.steps.items) }
+    ensures made { OnOk result (MakesCalls built.new (calls_in_turns program.now node.now numbers.now built.old turns.now)) }
 {
     for turn in turns {
         make_turn(alloc, program, node, numbers, turn, built)?;
@@ -102,8 +106,9 @@ pub fn class_with(
 ) -> Result<(Class, Vec<Part>), Memory>
     ensures form { IfOk result (λ made. HasNewest (node_of node.now) made.0 (class_from program.now node.now turns.now)) }
     ensures outputs { IfOk result (λ made. made.0.outputs ≡ node.now.outputs) }
-    ensures parts { IfOk result (λ made. AreParts made.0.tests.items made.0.steps.items made.0.steps.items made.1.items) }
+    ensures parts { IfOk result (λ made. KeepsOwn made.0 → ArePartsOf made.0 made.1.items) }
     ensures given { IfOk result (λ made. Each GivesAny made.0.steps.items) }
+    ensures calls { IfOk result (λ made. calls_made made.0.steps.items ≡ class_calls program.now node.now turns.now) }
 {
     let mut built = Built {
         steps: Vec::new(alloc),

@@ -5,9 +5,9 @@ ghost use Rattle.lus_program.specs.View.{expression_of};
 ghost use Rattle.lus_streams.specs.Equations.{place_in};
 ghost use Rattle.lus_classes.specs.View.{taken};
 ghost use Rattle.lus_values.specs.Lists.{Each};
-ghost use Rattle.lus_translation.specs.Making.{GivesAny};
+ghost use Rattle.lus_translation.specs.Making.{GivesAny, calls_made};
 ghost use Rattle.lus_translation.specs.Forms.{answers_form, given_cells, given_firsts, turn_cells, turn_firsts};
-ghost use Rattle.lus_translation.specs.Building.{AddsCells, AddsFirsts, Adds, given_from, turn_from};
+ghost use Rattle.lus_translation.specs.Building.{AddsCells, AddsFirsts, Adds, MakesCalls, given_from, turn_calls_from, turn_from};
 
 use crate::code::code_of;
 use crate::kept::Kept;
@@ -73,6 +73,7 @@ fn give_right(
     ensures cells { OnOk result (AddsCells built.old built.new (given_cells (expression_of right.now) clock.now variables.now)) }
     ensures firsts { OnOk result (AddsFirsts built.old built.new (given_firsts (expression_of right.now) clock.now variables.now)) }
     ensures given { OnOk result (Each GivesAny built.old.steps.items → Each GivesAny built.new.steps.items) }
+    ensures made { OnOk result (MakesCalls built.new (calls_made built.old.steps.items)) }
 {
     for variable in variables {
         let code = code_of(alloc, right, clock, &mut built.kept)?;
@@ -96,6 +97,7 @@ pub fn give_turn(
     ensures cells { OnOk result (AddsCells built.old built.new (turn_cells (expression_of equation.now.right) clock.now variables.now)) }
     ensures firsts { OnOk result (AddsFirsts built.old built.new (turn_firsts (expression_of equation.now.right) clock.now variables.now)) }
     ensures given { OnOk result (Each GivesAny built.old.steps.items → Each GivesAny built.new.steps.items) }
+    ensures made { OnOk result (MakesCalls built.new (turn_calls_from program.now built.old number equation.now variables.now)) }
 {
     match &equation.right.form {
         Form::Call(called, _) => {

@@ -21,7 +21,8 @@ use Rattle.lus_instructions.specs.declared.class.Class.{Class as StoredClass}
 use Rattle.lus_instructions.specs.declared.class.Target.{Target}
 use Rattle.lus_instructions.specs.declared.class.Step.{Step as StoredStep}
 use Rattle.lus_instructions.specs.declared.class.Step.TheVariants as steps
-use Rattle.lus_classes.specs.Turns.{AreMaking, GivesSome}
+use Rattle.lus_classes.specs.Turns.{AreMaking, AreOnce, GivesSome}
+use Rattle.lus_classes.specs.Variables.{NamesVariables}
 use Rattle.lus_classes.specs.View.{argument_of, call_of, class_of, code_of, steps_of, taken}
 use Rattle.lus_translation.specs.Forms.{calls_form, numbers_form}
 use Rattle.lus_translation.specs.Making.{GivesAny}
@@ -42,7 +43,7 @@ atom_asks : (a : Atom) (n m : ℕ) → answer n m ≡ atom_code a → ⊥
 atom_asks (constant v) n m e = cc
 atom_asks (named x) n m e = cc
 
-no_answer : (p : Program) (f : Node) (c : Class) (e : Expression) (n m : ℕ) (k : Clock) → IsCode p f c e (answer n m) k → ⊥
+pub no_answer : (p : Program) (f : Node) (c : Class) (e : Expression) (n m : ℕ) (k : Clock) → IsCode p f c e (answer n m) k → ⊥
 no_answer p f c (literal v) n m k h = h
 no_answer p f c (when t a) n m k h = atom_asks h.atom n m h.code
 no_answer p f c e n m k h = h
@@ -179,21 +180,23 @@ calls_node p f c ts (s ∷ ss) (q ∷ qs) n are known = (
 
 -- a class that belongs to its node and whose calls are those of its equations has its turns
 pub classes_are_turned : (p : Program) (f : Node) → IsReady p f → (qs : List StoredEquation) → f.equations ≡ equations_from 0 qs → (c : StoredClass) → IsClassOf p f (class_of c)
-    → (class_of c).calls ≡ calls_form p f f.equations → c.outputs ≡ f.outputs → Each GivesAny c.steps.items
+    → (class_of c).calls ≡ calls_form p f f.equations → c.outputs ≡ f.outputs → NamesVariables c → Each GivesAny c.steps.items → AreOnce c.steps.items
     → (HaveOneLeft f → KeepsFew f c) → IsTurned p f c
-classes_are_turned p f ready qs is c belongs same_calls outputs any kept =
+classes_are_turned p f ready qs is c belongs same_calls outputs variables any once kept =
     let d = class_of c in
     let size : length d.calls ≡ length c.calls.items = length-map c.calls.items (call_of c.tests.items) in
     let all = made p f ready qs is d belongs same_calls in
     record {
       belongs = belongs;
       outputs = outputs;
+      variables = variables;
       turns = record {
         turns = subst (λ n. InTurn d d.steps (λ x. nat_lt x n)) (sym belongs.inputs) belongs.turns;
         given = subst (λ n. Each (GivesSome n) c.steps.items) size (gives_some p f d c.steps.items any belongs.steps);
         every = λ n lt. (
             let m = all n (subst (λ l. n < l) (sym size) lt) in
             making n c.steps.items (answering_at n m.output d.steps m.place m.step m.here m.code));
+        once = once;
       };
       calls = calls_node p f d c.tests.items (sites p f) c.calls.items 0 belongs.calls (calls_known p d all);
       kept = kept;

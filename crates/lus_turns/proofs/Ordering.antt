@@ -115,6 +115,7 @@ module _ (p : Program) (f : Node) where
         record {
           turns = tt;
           firsts = tt;
+          apart = tt;
           order = tt;
           kept = λ y k own. absurd (true≢false (sym k));
           only = λ y k. k;
@@ -127,6 +128,7 @@ module _ (p : Program) (f : Node) where
         let h = subst (λ l. Underway p f big qs (reverse l) ts places) (taken_all order) reached in
         record {
           each = h.turns;
+          apart = h.apart;
           order = h.order;
           every = λ x own within. in_all p f ts (definer qs x) x (h.kept x (below_at (λ y. IsTrue (is_in (reverse order) y)) (length f.variables) orders.order.all x within) own);
         }

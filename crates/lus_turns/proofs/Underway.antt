@@ -14,7 +14,7 @@ use Rattle.lus_streams.proofs.Lists.{each_left, each_right, each_append, each_im
 use Rattle.lus_order.specs.Uses.{definer}
 use Rattle.lus_translation.specs.Forms.{Turn}
 use Rattle.lus_normal_form.specs.Ready.{IsReady}
-use Rattle.lus_translation.specs.Orders.{InOrder, IsGivenBy, IsTurn, in_turn, right_reads}
+use Rattle.lus_translation.specs.Orders.{AreApart, InOrder, IsGivenBy, IsTurn, in_turn, right_reads}
 use Rattle.lus_turns.specs.Adding.{add_to, placed_at}
 use Rattle.lus_normal_form.specs.Ready.{DefinesLeft, IsDefined}
 use Rattle.lus_turns.proofs.Classes.{defined_past}
@@ -190,10 +190,31 @@ module _ (p : Program) (f : Node) where
   firsts_added x e [] h = ((x, [], refl), tt)
   firsts_added x e (t ∷ ts) h = firsts_by (nat_eq t.equation e) x e t ts h.0 h.1 (firsts_added x e ts h.1)
 
+  others_by : (P : ℕ → Type 0) (b : Bool) (e x : ℕ) (t : Turn) (ts : List Turn) → P t.equation → Each (λ u. P u.equation) ts → Each (λ u. P u.equation) (add_to ts e x)
+      → Each (λ u. P u.equation) (if b then record { equation = t.equation; variables = t.variables ++ x ∷ [] } ∷ ts else t ∷ add_to ts e x)
+  others_by P true e x t ts here there rest = (here, there)
+  others_by P false e x t ts here there rest = (here, rest)
+
+  -- the equations of turns to which a variable was added
+  others_added : (P : ℕ → Type 0) (e x : ℕ) (ts : List Turn) → P e → Each (λ u. P u.equation) ts → Each (λ u. P u.equation) (add_to ts e x)
+  others_added P e x [] own all = (own, tt)
+  others_added P e x (t ∷ ts) own all = others_by P (nat_eq t.equation e) e x t ts all.0 all.1 (others_added P e x ts own all.1)
+
+  apart_by : (b : Bool) (e x : ℕ) (t : Turn) (ts : List Turn) → nat_eq t.equation e ≡ b → AreApart (t ∷ ts) → AreApart (add_to ts e x)
+      → AreApart (if b then record { equation = t.equation; variables = t.variables ++ x ∷ [] } ∷ ts else t ∷ add_to ts e x)
+  apart_by true e x t ts is apart rest = apart
+  apart_by false e x t ts is apart rest =
+      (others_added (λ d. t.equation ≡ d → ⊥) e x ts (λ same. absurd (true≢false (sym (eq-eqb t.equation e same) ∙ is))) apart.0, rest)
+
+  apart_added : (e x : ℕ) (ts : List Turn) → AreApart ts → AreApart (add_to ts e x)
+  apart_added e x [] apart = (tt, tt)
+  apart_added e x (t ∷ ts) apart = apart_by (nat_eq t.equation e) e x t ts refl apart (apart_added e x ts apart.1)
+
   -- these turns and places are those of the variables so far, the last first
   pub record Underway (big : ℕ) (qs : List StoredEquation) (earlier : List ℕ) (ts : List Turn) (places : List ℕ) : Type 0 where
     pub turns : Each (IsTurn f) ts
     pub firsts : Each HasFirst ts
+    pub apart : AreApart ts
     pub order : InOrder p f (in_turn ts) (λ x. nat_lt x f.inputs)
     pub kept : (y : ℕ) → IsTrue (is_in earlier y) → f.inputs ≤ y → IsTrue (is_in (variables_of ts (definer qs y)) y)
     pub only : (y : ℕ) → IsTrue (is_in (in_turn ts) y) → IsTrue (is_in earlier y)
@@ -238,6 +259,7 @@ module _ (p : Program) (f : Node) where
           record {
             turns = h.turns;
             firsts = h.firsts;
+            apart = h.apart;
             order = h.order;
             kept = λ y k own. or_true (nat_eq y x) (is_in earlier y) (IsTrue (is_in (variables_of ts (definer qs y)) y))
                 (λ e. absurd (let same = eqb-true y x e in omega (arith, same, own, input))) (λ old. h.kept y old own) k;
@@ -287,6 +309,7 @@ module _ (p : Program) (f : Node) where
           record {
             turns = turns_added d.equation x e ts d.here d.given h.turns;
             firsts = firsts_added x e ts h.firsts;
+            apart = apart_added e x ts h.apart;
             order = added_in_order p f x e ts (λ z. nat_lt z f.inputs) h.order (le-ltb x f.inputs own) (λ i. fresh (h.only x i)) within (all_read d needs_known cases);
             kept = λ y k no_input. or_true (nat_eq y x) (is_in earlier y) (IsTrue (is_in (variables_of (add_to ts (definer qs x) x) (definer qs y)) y))
                 (λ same. subst (λ z. IsTrue (is_in (variables_of (add_to ts (definer qs x) x) (definer qs z)) z)) (sym (eqb-true y x same)) (own_added x e ts))

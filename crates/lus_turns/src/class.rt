@@ -3,7 +3,7 @@
 ghost use Rattle.std.specs.Prelude.{IfOk};
 ghost use Rattle.lus_program.specs.View.{node_of, program_seen};
 ghost use Rattle.lus_order.specs.Orders.{OrdersVariables};
-ghost use Rattle.lus_classes.specs.Parts.{AreParts};
+ghost use Rattle.lus_classes.specs.Parts.{ArePartsOf};
 ghost use Rattle.lus_turns.specs.Turned.{IsTurned};
 ghost use Rattle.lus_normal_form.specs.Ready.{IsReady};
 ghost use Rattle.lus_normal_form.specs.Ready.{IsDefined};
@@ -27,7 +27,7 @@ pub fn class_of(
     requires defined { IsDefined (program_seen program.now) (node_of node.now) }
     requires order { OrdersVariables (node_of node.now) order.now }
     ensures turned { IfOk result (λ made. IsTurned (program_seen program.now) (node_of node.now) made.0) }
-    ensures parts { IfOk result (λ made. AreParts made.0.tests.items made.0.steps.items made.0.steps.items made.1.items) }
+    ensures parts { IfOk result (λ made. ArePartsOf made.0 made.1.items) }
 {
     let turns = turns_of(alloc, program, node, order)?;
     let made = class_with(alloc, program, node, &turns)?;

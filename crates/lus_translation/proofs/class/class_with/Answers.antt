@@ -14,3 +14,13 @@ returns-clause-form c =
       firsts = rw (numbers, c.new-3.ensures.items) at c.in_ok-make_turns.ensures.firsts;
       calls = c.in_ok-calls.ensures;
     }
+
+pub returns-clause-calls : goal.returns-clause-calls
+returns-clause-calls c =
+    let numbers : c.deref.result.now ≡ numbers_form 0 c.args.node.now.equations.items = c.deref.ensures.value ∙ c.in_ok-numbers.ensures.numbers in
+    rw (numbers, c.new.ensures.items) at c.in_ok-make_turns.ensures.made
+
+pub returns-clause-parts : goal.returns-clause-parts
+returns-clause-parts c = λ keeping.
+    let made = rw (c.deref-2.ensures.value, c.deref-3.ensures.value) at c.in_ok-parts.ensures in
+    record { make = made.make; stay = made.stay _ _ keeping }

@@ -3,8 +3,9 @@ use Rattle.std.proofs.lemmas.Option.{slice_get_past}
 use Rattle.lus_values.specs.Lists.{item}
 use Rattle.lus_program.specs.View.{node_of, program_seen}
 use Rattle.lus_classes.specs.View.{steps_of}
-use Rattle.lus_translation.specs.Forms.{equation_cells, equation_firsts, equation_steps}
+use Rattle.lus_translation.specs.Forms.{equation_calls, equation_cells, equation_firsts, equation_steps}
 use Rattle.lus_translation.specs.Building.{next_cell, next_first}
+use Rattle.lus_translation.specs.Making.{calls_made}
 use Rattle.lus_translation.specs.Newest.{cell_seen, newest, tested_memory}
 use Rattle.lus_translation.proofs.class.make_turn.Goals as goal
 
@@ -28,3 +29,9 @@ pub returns-in-None-clause-firsts : goal.returns-in-None-clause-firsts
 returns-in-None-clause-firsts c =
     let ks = c.args.built.now.kept.firsts.items in
     sym (ap (λ o. ks ++ map newest (equation_firsts (node_of c.args.node.now) o c.args.turn.now.variables.items)) (past c) ∙ append-nil ks)
+
+pub returns-in-None-clause-made : goal.returns-in-None-clause-made
+returns-in-None-clause-made c =
+    let made = calls_made c.args.built.now.steps.items in
+    let number = item 0 c.args.numbers.now c.args.turn.now.equation in
+    sym (ap (λ o. equation_calls (program_seen c.args.program.now) made number o c.args.turn.now.variables.items) (past c))

@@ -1,13 +1,13 @@
-use Rattle.std.proofs.Common.{◌≡◌, ◌∙◌, ◌+◌, ◌<◌, ◌++◌, ◌∷◌, [], suc, map, drop, length, get_or, sym, ap, subst, arith, drop-cons}
+use Rattle.std.proofs.Common.{◌≡◌, ◌∙◌, ◌+◌, ◌<◌, ◌++◌, ◌∷◌, [], suc, map, drop, length, get_or, sym, ap, subst, arith, append-nil, drop-cons}
 use Rattle.lus_program.specs.View.{expression_of}
 use Rattle.lus_classes.specs.View.{steps_of}
 use Rattle.lus_instructions.specs.declared.class.Step.TheVariants as variants
 use Rattle.lus_values.specs.Lists.{Each}
 use Rattle.lus_streams.proofs.Lists.{each_append}
-use Rattle.lus_translation.specs.Making.{GivesAny}
+use Rattle.lus_translation.specs.Making.{GivesAny, calls_made}
 use Rattle.lus_translation.specs.Forms.{given_cells, given_firsts, given_steps, kept_cells, kept_firsts}
 use Rattle.lus_translation.specs.Newest.{cell_seen, newest, tested_memory}
-use Rattle.lus_translation.proofs.Giving.{given_next, kept_long, kept_next, steps_pushed}
+use Rattle.lus_translation.proofs.Giving.{given_next, kept_long, kept_next, made_pushed, steps_pushed}
 use Rattle.lus_translation.proofs.steps.give_right.Goals as goal
 
 pub loop-variable-preserved : goal.loop-variable-preserved
@@ -37,6 +37,7 @@ loop-variable-preserved c =
           kept_next tested_memory cells _ _ (kept_cells e k) (given_cells e k (drop (i + 1) xs)) more_cells
           (ap (λ l. cells ++ map tested_memory (given_cells e k l)) (sym rest) ∙ c.loop-variable.invariant.cells);
       given = λ first. subst (Each GivesAny) (sym c.in_ok-push.ensures.items) (each_append GivesAny ss (variants.Give x c.in_ok-code.code ∷ []) (c.loop-variable.invariant.given first) (tt, tt));
+      made = ap calls_made c.in_ok-push.ensures.items ∙ made_pushed ss (variants.Give x c.in_ok-code.code) ∙ append-nil (calls_made ss) ∙ c.loop-variable.invariant.made;
       firsts =
           kept_next newest firsts _ _ (kept_firsts e k) (given_firsts e k (drop (i + 1) xs)) more_firsts
           (ap (λ l. firsts ++ map newest (given_firsts e k l)) (sym rest) ∙ c.loop-variable.invariant.firsts);

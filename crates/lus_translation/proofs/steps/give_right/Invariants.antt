@@ -2,7 +2,7 @@ use Rattle.std.proofs.Common.{◌≡◌, ◌++◌, map, drop, length}
 use Rattle.lus_program.specs.View.{expression_of}
 use Rattle.lus_classes.specs.View.{steps_of}
 use Rattle.lus_values.specs.Lists.{Each}
-use Rattle.lus_translation.specs.Making.{GivesAny}
+use Rattle.lus_translation.specs.Making.{GivesAny, calls_made}
 use Rattle.lus_translation.specs.Forms.{given_steps, given_cells, given_firsts}
 use Rattle.lus_translation.specs.Newest.{cell_seen, newest, tested_memory}
 use Rattle.lus_translation.proofs.steps.give_right.Given as goal
@@ -19,5 +19,6 @@ invariant-loop-variable l =
       steps : steps_of l.built.steps.items ++ given_steps (length cells) (length firsts) e l.clock rest ≡ steps_of l.initial.built.steps.items ++ given_steps (length cells_first) (length firsts_first) e l.clock l.variables;
       cells : cells ++ map tested_memory (given_cells e l.clock rest) ≡ cells_first ++ map tested_memory (given_cells e l.clock l.variables);
       given : Each GivesAny l.initial.built.steps.items → Each GivesAny l.built.steps.items;
+      made : calls_made l.built.steps.items ≡ calls_made l.initial.built.steps.items;
       firsts : firsts ++ map newest (given_firsts e l.clock rest) ≡ firsts_first ++ map newest (given_firsts e l.clock l.variables);
     }
