@@ -163,11 +163,11 @@ impl Rest<'_> {
         let tokens = self.tokens_of(alloc, place, tried)?;
         let mut declared = Vec::new(alloc);
         let are_few = self.source.len() <= MOST_SMALL;
-        declared.extend_from_slice(if beside == Beside::Declared && are_few {
-            front_of(&tokens)
+        if beside == Beside::Declared && are_few {
+            declared.extend_from_slice(front_of(&tokens))?;
         } else {
-            head_of(&tokens)
-        })?;
+            declared.extend_from_slice(head_of(&tokens))?;
+        }
         let is_node = self
             .declarations
             .get(place)
