@@ -26,8 +26,8 @@ use Rattle.lus_orders.specs.declared.class.Call.{Call}
 use Rattle.lus_orders.specs.declared.class.Class.{Class}
 use Rattle.lus_orders.specs.Orders.{Board, Calls, Next, exec}
 use Rattle.lus_orders.specs.Classes.{bound, part, replaced}
-use Rattle.lus_orders.specs.Made.{AnswersCall, AreCallsOf, AsksAgree, CallFaults, CallMade, CallStays, FitsClass, StateOf, states_with}
-use Rattle.lus_orders.specs.Segments.{AreOnce, GivesRow, GivesSteps, IsCodeOf, IsSegment, MakesCall, Making, Segment, calls, code_made, gives, kept, own_cells, own_flags, steps_made, taken, wide}
+use Rattle.lus_orders.specs.Made.{AllAnswer, AnswersAs, AreCallsOf, AsksAgree, CallFaults, CallMade, CallStays, CanAnswer, FitsClass, StateOf, called_in, states_with}
+use Rattle.lus_orders.specs.Segments.{AreOnce, Does, DoesIn, GivesRow, GivesSteps, IsCodeOf, IsSegment, MakesCall, Making, Segment, StandsFor, calls, code_made, gives, kept, own_cells, own_flags, steps_made, taken, unfolds, wide}
 use Rattle.lus_orders.proofs.Binding.{bind_is, bound_off}
 use Rattle.lus_orders.proofs.Obeyed.{exec_append}
 use Rattle.lus_orders.proofs.Rows.{back_of, front_of, part_before, part_behind, put_behind, put_front, sooner}
@@ -81,8 +81,7 @@ states_some f ns t (a ∷ given) (q ∷ qs) long h =
 
 module _ (plain : List PlainClass) (classes : List Class) (f : StateOf) (g : ℕ) (c : Class) (code : IsCodeOf plain classes (class_at plain g) c)
     (vs : List Value) (vs_long : length vs ≡ c.cells) (given : List Ask) (does : Calls) (agree : AsksAgree (class_at plain g) given) (many : length given ≡ length c.calls.items)
-    (answers : (n : ℕ) (q : Call) → slice_get c.calls.items n ≡ Some q
-    → AnswersCall plain classes (FitsClass plain) f (length (class_at plain g).clocks) vs q (does n) (item silent given n)) where
+    (answers : AllAnswer plain classes (FitsClass plain) f (length (class_at plain g).clocks) vs c.calls.items does given) where
   abbrev k : PlainClass
   k = class_at plain g
 
@@ -184,9 +183,9 @@ module _ (plain : List PlainClass) (classes : List Class) (f : StateOf) (g : ℕ
               };
             })
 
-    -- a call
+    -- a call that leaves what is told
     module _ (n : ℕ) (ts : List Target) (rest : List Segment) (makes : MakesCall k (λ h. length (class_at plain h).clocks) qs n ts)
-        (ns : List Value) (row : Row) (go : Going (calls n ts ∷ rest) ns row) where
+        (ns : List Value) (row : Row) (go : Going (calls n ts ∷ rest) ns row) (told : Option Board) where
       abbrev q : Call
       q = makes.call
 
@@ -197,7 +196,7 @@ module _ (plain : List PlainClass) (classes : List Class) (f : StateOf) (g : ℕ
       variables = take w row
 
       abbrev end : Next
-      end = runs (orders.Call n ∷ []) ns row
+      end = option_map (λ u. (0, u)) told
 
       room : w ≤ length row
       room = let a = code.own in let b = go.long in omega (arith, a, b)
@@ -219,7 +218,7 @@ module _ (plain : List PlainClass) (classes : List Class) (f : StateOf) (g : ℕ
           (λ x kx. stays k us fs given agree (map (taken n) ts ++ steps_made rest) go.known variables t go.turn (go.same ∙ is) x kx)
           (call_reads (slice_get k.calls n)) (reads_known k n ts (steps_made rest) go.known go.turn makes.some))
 
-      faults : CallFaults plain classes (FitsClass plain) w ask row (does n (ns, row)) → NextGoing rest end
+      faults : CallFaults plain classes (FitsClass plain) w ask row told → NextGoing rest end
       faults m = inl (ap (option_map (λ u. (0, u))) m.ended, by whole refl)
         where
           by : (o : Option Row) → whole ≡ o → played ≡ None
@@ -286,7 +285,7 @@ module _ (plain : List PlainClass) (classes : List Class) (f : StateOf) (g : ℕ
           none_played (sym go.same ∙ run_bound k us fs given agree n ts (steps_made rest) go.known variables answer s go.turn asks_it
           ∙ ap (option_and_then (ran (steps_made rest))) is)
 
-      stays_off : CallStays plain classes (FitsClass plain) f w q ask vs ns row (does n (ns, row)) → NextGoing rest end
+      stays_off : CallStays plain classes (FitsClass plain) f w q ask vs ns row told → NextGoing rest end
       stays_off m =
           let nothing = bound_off k [] n ts go.known variables new_targets go.unknown (makes.off row room go.on m.off) in
           let same_row : variables ++ drop w row ≡ row = Rattle.std.proofs.lemmas.List.take-append-drop w row in
@@ -297,7 +296,7 @@ module _ (plain : List PlainClass) (classes : List Class) (f : StateOf) (g : ℕ
             going = going_on [] ns variables nothing (f q.node (part q.cells q.length vs)) m.answers go.cells go.own (ap (f q.node) waiting) (λ j p found other. refl);
           })
 
-      was_made : CallMade plain classes (FitsClass plain) f w q ask ns row (does n (ns, row)) → NextGoing rest end
+      was_made : CallMade plain classes (FitsClass plain) f w q ask ns row told → NextGoing rest end
       was_made m = by (bound_in k seen ts variables) refl
         where
           seen : Row
@@ -339,14 +338,78 @@ module _ (plain : List PlainClass) (classes : List Class) (f : StateOf) (g : ℕ
                     others;
               })
 
-      call_goes : NextGoing rest end
-      call_goes = by (answers n q makes.found ns row room waiting (λ on. code.passing n q makes.found row go.long go.on on))
-        where
-          by : CallMade plain classes (FitsClass plain) f w q ask ns row (does n (ns, row)) ⊎ CallStays plain classes (FitsClass plain) f w q ask vs ns row (does n (ns, row))
-              ⊎ CallFaults plain classes (FitsClass plain) w ask row (does n (ns, row)) → NextGoing rest end
-          by (inl m) = was_made m
-          by (inr (inl m)) = stays_off m
-          by (inr (inr m)) = faults m
+      can_answer : CanAnswer plain classes (FitsClass plain) w vs q ns row
+      can_answer = (room, waiting, λ on. code.passing n q makes.found row go.long go.on on)
+
+      call_goes : AnswersAs plain classes (FitsClass plain) f w vs q ask ns row told → NextGoing rest end
+      call_goes (inl m) = was_made m
+      call_goes (inr (inl m)) = stays_off m
+      call_goes (inr (inr m)) = faults m
+
+    -- of the places behind the variables nothing is said
+    like : (rest : List Segment) (ns : List Value) (r t : Row) → take w t ≡ take w r → length t ≡ c.own → Going rest ns r → Going rest ns t
+    like rest ns r t same long go = record {
+      long = long;
+      same = ap (ran (steps_made rest)) same ∙ go.same;
+      known = go.known;
+      turn = go.turn;
+      unknown = subst (Unknown go.known) (sym same) go.unknown;
+      on = subst (GivenOnClocks k) (sym same) go.on;
+      once = go.once;
+      cells = go.cells;
+      own = go.own;
+      waits = go.waits;
+      holds = go.holds;
+    }
+
+    as_call : (n : ℕ) (ts : List Target) (os : List Order) (rest : List Segment) (ns : List Value) (row : Row) → Going (unfolds n ts os ∷ rest) ns row
+        → Going (calls n ts ∷ rest) ns row
+    as_call n ts os rest ns row go = record {
+      long = go.long;
+      same = go.same;
+      known = go.known;
+      turn = go.turn;
+      unknown = go.unknown;
+      on = go.on;
+      once = go.once;
+      cells = go.cells;
+      own = go.own;
+      waits = go.waits;
+      holds = go.holds;
+    }
+
+    -- orders that stand for a call
+    unfolded_goes : (n : ℕ) (ts : List Target) (os : List Order) (rest : List Segment) (makes : MakesCall k (λ h. length (class_at plain h).clocks) qs n ts)
+        → StandsFor k classes c.others.items c.own c.cells (length (class_at plain makes.call.node).clocks) makes.call os
+        → (ns : List Value) (row : Row) → Going (unfolds n ts os ∷ rest) ns row → NextGoing rest (runs os ns row)
+    unfolded_goes n ts os rest makes stands ns row go = by told here.does (call_goes n ts rest makes ns row still told answer)
+      where
+        still : Going (calls n ts ∷ rest) ns row
+        still = as_call n ts os rest ns row go
+
+        here : DoesIn k c.own (length (class_at plain makes.call.node).clocks) stands.class makes.call vs ns row (runs os ns row)
+        here = stands.does vs does ns row go.long vs_long (go.cells ∙ vs_long)
+
+        told : Option Board
+        told = called_in stands.class makes.call here.frame vs (ns, row)
+
+        answer : AnswersAs plain classes (FitsClass plain) f w vs makes.call (item silent given n) ns row told
+        answer =
+            (answers n makes.call makes.found).1 stands.class here.frame ns row stands.found stands.flat here.begins (can_answer n ts rest makes ns row still told)
+
+        by : (o : Option Board) → Does k c.own o (runs os ns row) → NextGoing rest (option_map (λ u. (0, u)) o) → NextGoing rest (runs os ns row)
+        by None none (inl over) = inl (none, over.1)
+        by None none (inr to) = absurd (none-some (0, (to.cells, to.row)) to.ended)
+        by (Some u) left (inl over) = absurd (none-some (0, u) (sym over.0))
+        by (Some u) left (inr to) =
+            let same : (0, u) ≡ (0, (to.cells, to.row)) = same_Some (0, u) (0, (to.cells, to.row)) to.ended in
+            let board : u ≡ (to.cells, to.row) = ap (λ (s : ℕ × Board). s.1) same in
+            inr (record {
+              cells = to.cells;
+              row = left.row;
+              ended = left.ended ∙ ap (λ (b : Board). Some (0, (b.0, left.row))) board;
+              going = like rest to.cells to.row left.row (left.same ∙ ap (λ (b : Board). take w b.1) board) left.long to.going;
+            })
 
     -- a segment and those behind it
     behind_one : (one : List Order) (ss : List Segment) (ns : List Value) (row : Row) → NextGoing ss (runs one ns row)
@@ -358,11 +421,17 @@ module _ (plain : List PlainClass) (classes : List Class) (f : StateOf) (g : ℕ
         subst (NextGoing []) (sym (exec_append c.others.items vs does (code_made ss) one 0 (ns, row) ∙ ap (option_and_then (λ (s : ℕ × Board). exec c.others.items vs does (code_made ss) s.0 s.1)) to.ended)) (rest to.cells to.row to.going)
 
     -- all segments
-    pub all_go : (ss : List Segment) → Each (IsSegment k c.others.items (λ h. length (class_at plain h).clocks) qs c.own) ss → (ns : List Value) (row : Row) → Going ss ns row
+    pub all_go : (ss : List Segment) → Each (IsSegment k classes c.others.items (λ h. length (class_at plain h).clocks) qs c.own c.cells) ss → (ns : List Value) (row : Row) → Going ss ns row
         → NextGoing [] (runs (code_made ss) ns row)
     all_go [] all ns row go = inr (record { cells = ns; row = row; ended = refl; going = go })
     all_go (gives mine os ∷ ss) all ns row go = behind_one os ss ns row (given_goes mine os ss all.0 ns row go) (λ ms t going. all_go ss all.1 ms t going)
-    all_go (calls n ts ∷ ss) all ns row go = behind_one (orders.Call n ∷ []) ss ns row (call_goes n ts ss all.0 ns row go) (λ ms t going. all_go ss all.1 ms t going)
+    all_go (calls n ts ∷ ss) all ns row go =
+        let told = does n (ns, row) in
+        behind_one (orders.Call n ∷ []) ss ns row
+        (call_goes n ts ss all.0 ns row go told ((answers n all.0.call all.0.found).0 ns row (can_answer n ts ss all.0 ns row go told)))
+        (λ ms t going. all_go ss all.1 ms t going)
+    all_go (unfolds n ts os ∷ ss) all ns row go =
+        behind_one os ss ns row (unfolded_goes n ts os ss all.0.0 all.0.1 ns row go) (λ ms t going. all_go ss all.1 ms t going)
 
     -- behind all of them
     pub all_played : (ns : List Value) (row : Row) → Going [] ns row → played ≡ Some (take w row, states_with f qs ns)

@@ -19,7 +19,9 @@ use Rattle.lus_orders.specs.declared.class.Call.{Call}
 use Rattle.lus_orders.specs.declared.class.Class.{Class}
 use Rattle.lus_orders.specs.Orders.{Board, after}
 use Rattle.lus_orders.specs.Classes.{Nests, back, begun, called, calls_of, follows, follows_class, part, passed}
-use Rattle.lus_orders.specs.Made.{AnswersCall, AreCallsOf, AreRealised, CallFaults, CallMade, CallStays, CodeMakesSteps, FitsClass, IsCallOf, Makes, StateOf, given_asks, read_of, state_in, states_with, width}
+use Rattle.lus_orders.specs.Made.{AnswersAs, AnswersCall, AnswersIn, AreCallsOf, AreRealised, Begins, CallFaults, CallMade, CallStays, CanAnswer, CodeMakesSteps, FitsClass, IsCallOf, Makes, StateOf, called_in, given_asks, no_calls, read_of, state_in, states_with, width}
+use Rattle.lus_orders.proofs.Lists.{begun_long}
+use Rattle.lus_orders.proofs.Obeyed.{flat_exec}
 
 part_long : {X : Type 0} (from long : ℕ) (xs : List X) → from + long ≤ length xs → length (part from long xs) ≡ long
 part_long from long xs le = length-take-le long (drop from xs) (let e = length-drop from xs in omega (arith, e, le))
@@ -45,9 +47,10 @@ module _ (plain : List PlainClass) (classes : List Class) (Given : ℕ → Row �
   -- what a node's code makes, whose calls are nested within a depth
   abbrev pub MakesSteps : ℕ → Type 0
   MakesSteps d =
-      (g : ℕ) (c : Class) → slice_get classes g ≡ Some c → Nests classes (suc d) g → (vs : List Value) (inputs : Row) → length vs ≡ c.cells → Given g inputs
+      (g : ℕ) (c : Class) → slice_get classes g ≡ Some c → Nests classes (suc d) g → (vs : List Value) (inputs row : Row) → length vs ≡ c.cells → Given g inputs
+      → Begins c.own (width plain classes g) inputs row
       → Makes plain classes Given (λ h us. state_in plain classes d h us) g (given_asks plain classes (λ h us. state_in plain classes d h us) g vs) vs inputs
-      (follows_class classes d c vs (vs, begun c.own inputs))
+      (follows_class classes d c vs (vs, row))
 
   module _ (d : ℕ) (below : MakesSteps d) (c : Class) (w : ℕ) (vs : List Value) (long : length vs ≡ c.cells)
       (n : ℕ) (q : Call) (found : slice_get c.calls.items n ≡ Some q) (ask : Ask)
@@ -64,15 +67,19 @@ module _ (plain : List PlainClass) (classes : List Class) (Given : ℕ → Row �
     us_long : length us ≡ has.is.called.cells
     us_long = part_long q.cells q.length vs (let e : q.cells + q.length ≤ c.cells = has.is.cells in omega (arith, e, long)) ∙ has.is.long
 
-    follows_is : (i : Row) → does q.node us us i ≡ follows_class classes d has.is.called us (us, begun has.is.called.own i)
-    follows_is i =
+    follows_is : (ms : List Value) (i : Row) → does q.node us ms i ≡ follows_class classes d has.is.called us (ms, begun has.is.called.own i)
+    follows_is ms i =
         ap (λ o. elim o [
           | None ↦ None
-          | Some k ↦ after k.others.items us (called (λ h xs ms j. follows classes d h xs ms j) k.calls.items us) k.code.items 0 (us, begun k.own i)
+          | Some k ↦ after k.others.items us (called (λ h xs ts j. follows classes d h xs ts j) k.calls.items us) k.code.items 0 (ms, begun k.own i)
         ]) has.is.found
 
-    call_is : (b : Bool) (ns : List Value) (r : Row) → looks q.base r ≡ b
-        → call (ns, r) ≡ (if b then option_and_then {T = Board} (back q (ns, r)) (does q.node us (part q.cells q.length ns) (passed q.arguments.items r)) else Some (ns, r))
+    -- what a call does whose node's code is followed in a frame
+    abbrev in_frame : Bool → List Value → Row → Row → Option Board
+    in_frame b ns r frame =
+        if b then option_and_then {T = Board} (back q (ns, r)) (follows_class classes d has.is.called us (part q.cells q.length ns, frame)) else Some (ns, r)
+
+    call_is : (b : Bool) (ns : List Value) (r : Row) → looks q.base r ≡ b → call (ns, r) ≡ in_frame b ns r (begun has.is.called.own (passed q.arguments.items r))
     call_is b ns r e =
         ap (λ o. elim o [
           | None ↦ None
@@ -81,10 +88,13 @@ module _ (plain : List PlainClass) (classes : List Class) (Given : ℕ → Row �
               else Some (ns, r)
         ]) found
         ∙ ap (λ t. if t then option_and_then {T = Board} (back q (ns, r)) (does q.node us (part q.cells q.length ns) (passed q.arguments.items r)) else Some (ns, r)) e
+        ∙ ap (λ o. if b then option_and_then {T = Board} (back q (ns, r)) o else Some (ns, r)) (follows_is (part q.cells q.length ns) (passed q.arguments.items r))
 
-    -- a call makes the called node's instant and its stores, and gives what its targets are
-    answers_call : AnswersCall plain classes Given (λ h xs. state_in plain classes (suc d) h xs) w vs q call ask
-    answers_call ns r wide same given = by (looks q.base r) refl
+    -- it makes the called node's instant and its stores, and gives what its targets are
+    answers_as : (frame : Row) (ns : List Value) (r : Row) (end : Option Board) → Begins has.is.called.own (width plain classes q.node) (passed q.arguments.items r) frame
+        → ((b : Bool) → looks q.base r ≡ b → end ≡ in_frame b ns r frame) → CanAnswer plain classes Given w vs q ns r
+        → AnswersAs plain classes Given (λ h xs. state_in plain classes (suc d) h xs) w vs q ask ns r end
+    answers_as frame ns r end begins end_is (wide, same, given) = by (looks q.base r) refl
       where
         s : State
         s = state_in plain classes (suc d) q.node us
@@ -95,38 +105,35 @@ module _ (plain : List PlainClass) (classes : List Class) (Given : ℕ → Row �
         passed_same : passes has.call.arguments (take w r) ≡ passed q.arguments.items r
         passed_same = sym (has.is.passing r wide)
 
-        by : (b : Bool) → looks q.base r ≡ b → CallMade plain classes Given (λ h xs. state_in plain classes (suc d) h xs) w q ask ns r (call (ns, r))
-            ⊎ CallStays plain classes Given (λ h xs. state_in plain classes (suc d) h xs) w q ask vs ns r (call (ns, r))
-            ⊎ CallFaults plain classes Given w ask r (call (ns, r))
-        by false e = inr (inl (record { off = e; answers = ask_is false e; ended = call_is false ns r e }))
-        by true e = ends (follows_class classes d has.is.called us (us, begun has.is.called.own i)) refl
+        inner : Option Board
+        inner = follows_class classes d has.is.called us (us, frame)
+
+        by : (b : Bool) → looks q.base r ≡ b → AnswersAs plain classes Given (λ h xs. state_in plain classes (suc d) h xs) w vs q ask ns r end
+        by false e = inr (inl (record { off = e; answers = ask_is false e; ended = end_is false e }))
+        by true e = ends inner refl
           where
             i : Row
             i = passed q.arguments.items r
 
-            made : Makes plain classes Given (λ h xs. state_in plain classes d h xs) q.node (given_asks plain classes (λ h xs. state_in plain classes d h xs) q.node us) us i
-                (follows_class classes d has.is.called us (us, begun has.is.called.own i))
-            made = below q.node has.is.called has.is.found nests us i us_long (given e)
+            made : Makes plain classes Given (λ h xs. state_in plain classes d h xs) q.node (given_asks plain classes (λ h xs. state_in plain classes d h xs) q.node us) us i inner
+            made = below q.node has.is.called has.is.found nests us i frame us_long (given e) begins
 
-            asks_now : ask (take w r) ≡ option_map (read_of plain classes (λ h xs. state_in plain classes d h xs) q.node) (follows_class classes d has.is.called us (us, begun has.is.called.own i))
+            asks_now : ask (take w r) ≡ option_map (read_of plain classes (λ h xs. state_in plain classes d h xs) q.node) inner
             asks_now =
                 ask_is true e
                 ∙ ap₂ (λ (h : ℕ) (j : Row). step plain s h j) has.is.node passed_same
                 ∙ made.answers
 
-            call_now : call (ns, r) ≡ option_and_then {T = Board} (back q (ns, r)) (follows_class classes d has.is.called us (us, begun has.is.called.own i))
-            call_now =
-                call_is true ns r e
-                ∙ ap (option_and_then {T = Board} (back q (ns, r))) (ap (λ (ms : List Value). does q.node us ms i) same ∙ follows_is i)
+            end_now : end ≡ option_and_then {T = Board} (back q (ns, r)) inner
+            end_now =
+                end_is true e
+                ∙ ap (λ (ms : List Value). option_and_then {T = Board} (back q (ns, r)) (follows_class classes d has.is.called us (ms, frame))) same
 
-            ends : (o : Option Board) → follows_class classes d has.is.called us (us, begun has.is.called.own i) ≡ o
-                → CallMade plain classes Given (λ h xs. state_in plain classes (suc d) h xs) w q ask ns r (call (ns, r))
-                ⊎ CallStays plain classes Given (λ h xs. state_in plain classes (suc d) h xs) w q ask vs ns r (call (ns, r))
-                ⊎ CallFaults plain classes Given w ask r (call (ns, r))
+            ends : (o : Option Board) → inner ≡ o → AnswersAs plain classes Given (λ h xs. state_in plain classes (suc d) h xs) w vs q ask ns r end
             ends None o =
                 inr (inr (record {
                   answers = asks_now ∙ ap (option_map (read_of plain classes (λ h xs. state_in plain classes d h xs) q.node)) o;
-                  ended = call_now ∙ ap (option_and_then {T = Board} (back q (ns, r))) o;
+                  ended = end_now ∙ ap (option_and_then {T = Board} (back q (ns, r))) o;
                 }))
             ends (Some u) o =
                 inl (record {
@@ -135,8 +142,35 @@ module _ (plain : List PlainClass) (classes : List Class) (Given : ℕ → Row �
                   new = u.0;
                   long = subst (λ x. IfSome x (λ v. length v.0 ≡ length us)) o made.long ∙ part_long q.cells q.length vs (let l : q.cells + q.length ≤ c.cells = has.is.cells in omega (arith, l, long));
                   answers = asks_now ∙ ap (option_map (read_of plain classes (λ h xs. state_in plain classes d h xs) q.node)) o;
-                  ended = call_now ∙ ap (option_and_then {T = Board} (back q (ns, r))) o;
+                  ended = end_now ∙ ap (option_and_then {T = Board} (back q (ns, r))) o;
                 })
+
+    answers_call : AnswersCall plain classes Given (λ h xs. state_in plain classes (suc d) h xs) w vs q call ask
+    answers_call ns r can =
+        let i = passed q.arguments.items r in
+        answers_as (begun has.is.called.own i) ns r (call (ns, r)) (record { long = begun_long has.is.called.own i; same = refl }) (λ b e. call_is b ns r e) can
+
+    -- code without calls does the same whatever calls do
+    answers_in : AnswersIn plain classes Given (λ h xs. state_in plain classes (suc d) h xs) w vs q ask
+    answers_in k frame ns r there flat begins can =
+        answers_as frame ns r (called_in k q frame vs (ns, r))
+        (subst (λ (x : Class). Begins x.own (width plain classes q.node) (passed q.arguments.items r) frame) (sym same) begins) end_is can
+      where
+        same : has.is.called ≡ k
+        same = same_Some has.is.called k (sym has.is.found ∙ there)
+
+        alone : Option Board
+        alone = after k.others.items us no_calls k.code.items 0 (part q.cells q.length ns, frame)
+
+        follows_alone : alone ≡ follows_class classes d has.is.called us (part q.cells q.length ns, frame)
+        follows_alone =
+            ap (option_map (λ x. x.1)) (flat_exec k.others.items us no_calls (called (λ h xs ms j. follows classes d h xs ms j) k.calls.items us) k.code.items flat 0 (part q.cells q.length ns, frame))
+            ∙ ap (λ (x : Class). follows_class classes d x us (part q.cells q.length ns, frame)) (sym same)
+
+        end_is : (b : Bool) → looks q.base r ≡ b → called_in k q frame vs (ns, r) ≡ in_frame b ns r frame
+        end_is b e =
+            ap (λ t. if t then option_and_then {T = Board} (back q (ns, r)) alone else Some (ns, r)) e
+            ∙ ap (λ o. if b then option_and_then {T = Board} (back q (ns, r)) o else Some (ns, r)) follows_alone
 
   asks_long : (f : StateOf) (w : ℕ) (c : Class) (qs : List Call) (ps : List PlainCall) (vs : List Value) → AreCallsOf plain classes Given c w qs ps
       → length (asks plain (states_with f qs vs) ps) ≡ length qs
@@ -156,21 +190,32 @@ module _ (plain : List PlainClass) (classes : List Class) (Given : ℕ → Row �
 
   module _ (all : AreRealised plain classes Given) where
     pub makes : (d : ℕ) → MakesSteps d
-    makes zero g c found nests vs inputs long given =
-        (all g c found).realises (λ h us. state_in plain classes 0 h us) vs inputs long given _ _
+    makes zero g c found nests vs inputs row long given begins =
+        (all g c found).realises (λ h us. state_in plain classes 0 h us) vs inputs row long given begins _ _
         (λ n r t h. asks_same plain (states_with (λ h us. state_in plain classes 0 h us) (calls_of classes g) vs) (class_at plain g).calls n r t h)
         (given_long (λ h us. state_in plain classes 0 h us) g c vs found (all g c found).calls)
         (λ n q at. absurd (each_found (λ p. Nests classes 0 p.node) c.calls.items n q (nests_at 0 g c found nests) at))
-    makes (suc d) g c found nests vs inputs long given =
-        (all g c found).realises (λ h us. state_in plain classes (suc d) h us) vs inputs long given _ _
+    makes (suc d) g c found nests vs inputs row long given begins =
+        (all g c found).realises (λ h us. state_in plain classes (suc d) h us) vs inputs row long given begins _ _
         (λ n r t h. asks_same plain (states_with (λ h us. state_in plain classes (suc d) h us) (calls_of classes g) vs) (class_at plain g).calls n r t h)
         (given_long (λ h us. state_in plain classes (suc d) h us) g c vs found (all g c found).calls)
-        (λ n q at. answers_call d (makes d) c (width plain classes g) vs long n q at
-        (item silent (given_asks plain classes (λ h us. state_in plain classes (suc d) h us) g vs) n)
-        (subst (λ qs. HasPlain (λ h us. state_in plain classes (suc d) h us) (width plain classes g) c q vs (item silent (asks plain (states_with (λ h us. state_in plain classes (suc d) h us) qs vs) (class_at plain g).calls) n))
-        (sym (ap (λ o. elim o [ None ↦ [] | Some k ↦ k.calls.items ]) found))
-        (plain_at (λ h us. state_in plain classes (suc d) h us) (width plain classes g) c c.calls.items (class_at plain g).calls vs (all g c found).calls n q at))
-        (each_found (λ p. Nests classes (suc d) p.node) c.calls.items n q (nests_at (suc d) g c found nests) at))
+        (λ n q at. (
+          answers_call d (makes d) c (width plain classes g) vs long n q at (asks_of n) (has n q at) (nests_here n q at),
+          answers_in d (makes d) c (width plain classes g) vs long n q at (asks_of n) (has n q at) (nests_here n q at),
+        ))
+      where
+        asks_of : ℕ → Ask
+        asks_of n = item silent (given_asks plain classes (λ h us. state_in plain classes (suc d) h us) g vs) n
+
+        has : (n : ℕ) (q : Call) → slice_get c.calls.items n ≡ Some q → HasPlain (λ h us. state_in plain classes (suc d) h us) (width plain classes g) c q vs (asks_of n)
+        has n q at =
+            subst (λ qs. HasPlain (λ h us. state_in plain classes (suc d) h us) (width plain classes g) c q vs (item silent (asks plain (states_with (λ h us. state_in plain classes (suc d) h us) qs vs) (class_at plain g).calls) n))
+            (sym (ap (λ o. elim o [ None ↦ [] | Some k ↦ k.calls.items ]) found))
+            (plain_at (λ h us. state_in plain classes (suc d) h us) (width plain classes g) c c.calls.items (class_at plain g).calls vs (all g c found).calls n q at)
+
+        nests_here : (n : ℕ) (q : Call) → slice_get c.calls.items n ≡ Some q → Nests classes (suc d) q.node
+        nests_here n q at = each_found (λ p. Nests classes (suc d) p.node) c.calls.items n q (nests_at (suc d) g c found nests) at
 
 pub code_makes_steps : CodeMakesSteps
-code_makes_steps plain classes all d g c found nests vs inputs long given = (makes plain classes (FitsClass plain) all d g c found nests vs inputs long given).answers
+code_makes_steps plain classes all d g c found nests vs inputs long given =
+    (makes plain classes (FitsClass plain) all d g c found nests vs inputs (begun c.own inputs) long given (record { long = begun_long c.own inputs; same = refl })).answers

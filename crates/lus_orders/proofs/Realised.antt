@@ -21,10 +21,9 @@ use Rattle.lus_orders.specs.declared.class.Call.{Call}
 use Rattle.lus_orders.specs.declared.class.Class.{Class}
 use Rattle.lus_orders.specs.Orders.{Board, Calls, after, exec}
 use Rattle.lus_orders.specs.Classes.{begun, calls_of}
-use Rattle.lus_orders.specs.Made.{AnswersCall, AreRealised, AsksAgree, FitsClass, Makes, StateOf, read_of, states_with}
+use Rattle.lus_orders.specs.Made.{AllAnswer, AreRealised, AsksAgree, Begins, FitsClass, Makes, StateOf, read_of, states_with}
 use Rattle.lus_orders.specs.Segments.{IsCodeOf, Stored, code_made, kept, own_cells, own_flags, wide}
 use Rattle.lus_orders.proofs.Going.{Going, NextGoing, all_go, all_played, played}
-use Rattle.lus_orders.proofs.Lists.{begun_long}
 use Rattle.lus_orders.proofs.Obeyed.{exec_append}
 use Rattle.lus_orders.proofs.Rows.{item_past, part_behind}
 
@@ -79,18 +78,15 @@ module _ (k : PlainClass) (us : List Value) (fs : List Bool) (given : List Ask) 
       by (Some t) = one_kept t (states_after given t)
 
 module _ (plain : List PlainClass) (classes : List Class) (g : ℕ) (c : Class) (there : slice_get classes g ≡ Some c) (code : IsCodeOf plain classes (class_at plain g) c)
-    (f : StateOf) (vs : List Value) (inputs : Row) (vs_long : length vs ≡ c.cells) (fits : FitsClass plain g inputs) (does : Calls) (given : List Ask)
+    (f : StateOf) (vs : List Value) (inputs row : Row) (vs_long : length vs ≡ c.cells) (fits : FitsClass plain g inputs)
+    (begins : Begins c.own (length (class_at plain g).clocks) inputs row) (does : Calls) (given : List Ask)
     (agree : AsksAgree (class_at plain g) given) (many : length given ≡ length c.calls.items)
-    (answers : (n : ℕ) (q : Call) → slice_get c.calls.items n ≡ Some q
-    → AnswersCall plain classes (FitsClass plain) f (length (class_at plain g).clocks) vs q (does n) (item silent given n)) where
+    (answers : AllAnswer plain classes (FitsClass plain) f (length (class_at plain g).clocks) vs c.calls.items does given) where
   abbrev k : PlainClass
   k = class_at plain g
 
   abbrev w : ℕ
   w = wide k
-
-  abbrev row : Row
-  row = begun c.own inputs
 
   abbrev first : Row
   first = take w row
@@ -99,14 +95,14 @@ module _ (plain : List PlainClass) (classes : List Class) (g : ℕ) (c : Class) 
   end = after c.others.items vs does c.code.items 0 (vs, row)
 
   first_same : first_row k.clocks inputs ≡ first
-  first_same = first_is k.clocks c.own inputs code.own
+  first_same = first_is k.clocks c.own inputs code.own ∙ sym begins.same
 
   seen : (x : ℕ) → item None first x ≡ item None inputs x
   seen x = ap (λ (r : Row). item None r x) (sym first_same) ∙ first_item k.clocks inputs x (let a = code.inputs in let b = fits.0 in omega (arith, a, b))
 
   start : Going plain classes f g c code vs vs_long given does agree many answers first code.segments vs row
   start = record {
-    long = begun_long c.own inputs;
+    long = begins.long;
     same = ap (λ ss. run_steps k (own_cells k vs) (own_flags k vs) given ss first) code.steps;
     known = λ x. nat_lt x k.inputs;
     turn = subst (λ ss. InTurn k ss (λ x. nat_lt x k.inputs)) (sym code.steps) code.turns;
@@ -173,5 +169,6 @@ codes_realise plain classes codes g c there =
     let code = codes g c there in
     record {
       calls = code.calls_are;
-      realises = λ f vs inputs long fits does given agree many answers. made plain classes g c there code f vs inputs long fits does given agree many answers;
+      realises = λ f vs inputs row long fits begins does given agree many answers.
+          made plain classes g c there code f vs inputs row long fits begins does given agree many answers;
     }

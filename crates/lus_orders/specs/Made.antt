@@ -1,6 +1,6 @@
 -- The states that cells are, and code that makes the instants of classes.
-use Rattle.std.specs.Prelude.{◌≡◌, ℕ, zero, suc, ◌+◌, ◌≤◌, ◌⊎◌, Bool, true, false, List, [], ◌∷◌, length, map, take, Option, Some, None, slice_get, option_map}
-use Rattle.std.specs.Option.{IfSome}
+use Rattle.std.specs.Prelude.{◌≡◌, ℕ, zero, suc, ◌+◌, ◌≤◌, ◌⊎◌, Bool, true, false, List, [], ◌∷◌, length, map, take, Option, Some, None, slice_get, option_map, if◌then◌else◌}
+use Rattle.std.specs.Option.{IfSome, option_and_then}
 use Rattle.lus_values.specs.Lists.{item, Each}
 use Rattle.lus_values.specs.Values.{Value, Row}
 use Rattle.lus_classes.specs.Classes.{call_reads, class_at}
@@ -13,8 +13,8 @@ use Rattle.lus_instructions.specs.Words.{is_nil_entry}
 use Rattle.lus_orders.specs.Looks.{looks}
 use Rattle.lus_orders.specs.declared.class.Call.{Call}
 use Rattle.lus_orders.specs.declared.class.Class.{Class}
-use Rattle.lus_orders.specs.Orders.{Board, Calls, after}
-use Rattle.lus_orders.specs.Classes.{Nests, begun, bound, calls_of, follows_class, part, passed, replaced}
+use Rattle.lus_orders.specs.Orders.{Board, Calls, MakesNone, after}
+use Rattle.lus_orders.specs.Classes.{Nests, back, begun, bound, calls_of, follows_class, part, passed, replaced}
 
 -- what a call's cells are as a state, where that of each node is known
 abbrev pub StateOf : Type 0
@@ -32,6 +32,21 @@ flags_in vs = map (λ v. is_nil_entry (Some v)) vs
 abbrev pub AsksAgree : PlainClass → List Ask → Type 0
 AsksAgree k given =
     (n : ℕ) (r t : Row) → Each (λ x. item None r x ≡ item None t x) (call_reads (slice_get k.calls n)) → item silent given n r ≡ item silent given n t
+
+-- a row so long whose variables are inputs and then no entries; of the places behind them nothing is said
+pub record Begins (own wide : ℕ) (inputs row : Row) : Type 0 where
+  pub long : length row ≡ own
+  pub same : take wide row ≡ take wide (begun own inputs)
+
+-- what a call of a class does in a frame, where the class's code makes no calls
+abbrev pub no_calls : Calls
+no_calls n b = None
+
+abbrev pub called_in : Class → Call → Row → List Value → Board → Option Board
+called_in c q frame vs b =
+    if looks q.base b.1
+    then option_and_then {T = Board} (back q b) (after c.others.items (part q.cells q.length vs) no_calls c.code.items 0 (part q.cells q.length b.0, frame))
+    else Some b
 
 module _ (plain : List PlainClass) (classes : List Class) where
   abbrev pub width : ℕ → ℕ
@@ -80,12 +95,31 @@ module _ (plain : List PlainClass) (classes : List Class) where
       pub answers : ask (take w r) ≡ None
       pub ended : end ≡ None
 
+    -- a call was made, stays or faults
+    abbrev pub AnswersAs : StateOf → ℕ → List Value → Call → Ask → List Value → Row → Option Board → Type 0
+    AnswersAs f w vs q ask ns r end = CallMade f w q ask ns r end ⊎ CallStays f w q ask vs ns r end ⊎ CallFaults w ask r end
+
+    -- its cells are as they were, and it passes what fits the called node
+    abbrev pub CanAnswer : ℕ → List Value → Call → List Value → Row → Type 0
+    CanAnswer w vs q ns r =
+        (w ≤ length r) × (part q.cells q.length ns ≡ part q.cells q.length vs) × (looks q.base r ≡ true → Given q.node (passed q.arguments.items r))
+
     -- a call does what it asks, while its cells are as they were
     abbrev pub AnswersCall : StateOf → ℕ → List Value → Call → (Board → Option Board) → Ask → Type 0
-    AnswersCall f w vs q call ask =
-        (ns : List Value) (r : Row) → w ≤ length r → part q.cells q.length ns ≡ part q.cells q.length vs
-        → (looks q.base r ≡ true → Given q.node (passed q.arguments.items r))
-        → CallMade f w q ask ns r (call (ns, r)) ⊎ CallStays f w q ask vs ns r (call (ns, r)) ⊎ CallFaults w ask r (call (ns, r))
+    AnswersCall f w vs q call ask = (ns : List Value) (r : Row) → CanAnswer w vs q ns r → AnswersAs f w vs q ask ns r (call (ns, r))
+
+    -- and so does one of a class whose code makes no calls in any frame that begins with what is passed
+    abbrev pub AnswersIn : StateOf → ℕ → List Value → Call → Ask → Type 0
+    AnswersIn f w vs q ask =
+        (c : Class) (frame : Row) (ns : List Value) (r : Row) → slice_get classes q.node ≡ Some c → Each MakesNone c.code.items
+        → Begins c.own (width q.node) (passed q.arguments.items r) frame → CanAnswer w vs q ns r
+        → AnswersAs f w vs q ask ns r (called_in c q frame vs (ns, r))
+
+    -- the calls of a class do what they ask
+    abbrev pub AllAnswer : StateOf → ℕ → List Value → List Call → Calls → List Ask → Type 0
+    AllAnswer f w vs qs calls given =
+        (n : ℕ) (q : Call) → slice_get qs n ≡ Some q
+        → AnswersCall f w vs q (calls n) (item silent given n) × AnswersIn f w vs q (item silent given n)
 
     -- an instant was made: the board says what it answers, and has as many cells as before
     pub record Makes (f : StateOf) (g : ℕ) (given : List Ask) (vs : List Value) (inputs : Row) (end : Option Board) : Type 0 where
@@ -96,10 +130,10 @@ module _ (plain : List PlainClass) (classes : List Class) where
     -- the code of one class makes its instants, whatever its calls are that do what they ask
     abbrev pub Realises : ℕ → Class → Type 0
     Realises g c =
-        (f : StateOf) (vs : List Value) (inputs : Row) → length vs ≡ c.cells → Given g inputs → (calls : Calls) (given : List Ask)
-        → AsksAgree (class_at plain g) given → length given ≡ length c.calls.items
-        → ((n : ℕ) (q : Call) → slice_get c.calls.items n ≡ Some q → AnswersCall f (width g) vs q (calls n) (item silent given n))
-        → Makes f g given vs inputs (after c.others.items vs calls c.code.items 0 (vs, begun c.own inputs))
+        (f : StateOf) (vs : List Value) (inputs row : Row) → length vs ≡ c.cells → Given g inputs → Begins c.own (width g) inputs row
+        → (calls : Calls) (given : List Ask) → AsksAgree (class_at plain g) given → length given ≡ length c.calls.items
+        → AllAnswer f (width g) vs c.calls.items calls given
+        → Makes f g given vs inputs (after c.others.items vs calls c.code.items 0 (vs, row))
 
     -- a call of the code is one of the class
     pub record IsCallOf (c : Class) (w : ℕ) (q : Call) (p : PlainCall) : Type 0 where

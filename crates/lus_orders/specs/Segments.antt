@@ -1,5 +1,6 @@
--- The code of one class: segments that give variables or make a call, and then the stores.
+-- The code of one class: segments that give variables, make a call or stand for one, and then the stores.
 use Rattle.std.specs.Prelude.{◌≡◌, ℕ, suc, ◌+◌, ◌<◌, ◌≤◌, ◌⊎◌, ◌++◌, nat_lt, Bool, true, false, List, [], ◌∷◌, length, map, take, drop, Option, Some, None, slice_get, option_map}
+use Rattle.std.specs.Option.{MatchOption}
 use Rattle.lus_values.specs.Lists.{Each}
 use Rattle.lus_values.specs.Values.{Value, Row}
 use Rattle.lus_classes.specs.Classes.{Step, answer, class_at, clock_in}
@@ -14,13 +15,14 @@ use Rattle.lus_orders.specs.declared.order.Order.TheVariants as orders
 use Rattle.lus_orders.specs.declared.class.Target.{Target}
 use Rattle.lus_orders.specs.declared.class.Call.{Call}
 use Rattle.lus_orders.specs.declared.class.Class.{Class}
-use Rattle.lus_orders.specs.Orders.{Calls, Next, exec}
+use Rattle.lus_orders.specs.Orders.{Board, Calls, MakesNone, Next, exec}
 use Rattle.lus_orders.specs.Classes.{Nests, begun, follows_class, part, passed}
-use Rattle.lus_orders.specs.Made.{AreCallsOf, FitsClass, flags_in, read_of, state_in, width}
+use Rattle.lus_orders.specs.Made.{AreCallsOf, Begins, FitsClass, called_in, flags_in, read_of, state_in, width}
 
 pub data Segment : Type 0 where
   gives : List Step → List Order → Segment
   calls : ℕ → List Target → Segment
+  unfolds : ℕ → List Target → List Order → Segment
 
 -- a variable that call n gives
 abbrev pub taken : ℕ → Target → Step
@@ -31,23 +33,27 @@ abbrev pub steps_made : List Segment → List Step
 steps_made [] = []
 steps_made (gives ss code ∷ rest) = ss ++ steps_made rest
 steps_made (calls n ts ∷ rest) = map (taken n) ts ++ steps_made rest
+steps_made (unfolds n ts code ∷ rest) = map (taken n) ts ++ steps_made rest
 
 -- their code, which stands with its last order first
 abbrev pub code_made : List Segment → List Order
 code_made [] = []
 code_made (gives ss code ∷ rest) = code_made rest ++ code
 code_made (calls n ts ∷ rest) = code_made rest ++ (orders.Call n ∷ [])
+code_made (unfolds n ts code ∷ rest) = code_made rest ++ code
 
 -- some segment makes call n
 abbrev pub Making : ℕ → List Segment → Type 0
 Making n [] = ⊥
 Making n (gives ss code ∷ rest) = Making n rest
 Making n (calls m ts ∷ rest) = (n ≡ m) ⊎ Making n rest
+Making n (unfolds m ts code ∷ rest) = (n ≡ m) ⊎ Making n rest
 
 abbrev pub AreOnce : List Segment → Type 0
 AreOnce [] = Unit {0}
 AreOnce (gives ss code ∷ rest) = AreOnce rest
 AreOnce (calls m ts ∷ rest) = (Making m rest → ⊥) × AreOnce rest
+AreOnce (unfolds m ts code ∷ rest) = (Making m rest → ⊥) × AreOnce rest
 
 module _ (k : PlainClass) where
   abbrev pub wide : ℕ
@@ -94,9 +100,36 @@ module _ (k : PlainClass) where
     pub off : (r : Row) → wide ≤ length r → GivenOnClocks k (take wide r) → looks call.base r ≡ false
         → Each (λ t. is_on_row (clock_in k t.variable) (take wide r) ≡ false) ts
 
-  abbrev pub IsSegment : List Instruction → (ℕ → ℕ) → List Call → ℕ → Segment → Type 0
-  IsSegment others widths qs own (gives ss code) = GivesSteps others own ss code
-  IsSegment others widths qs own (calls n ts) = MakesCall widths qs n ts
+  -- orders leave the cells and the variables that are told, or there is no value
+  pub record Leaves (own : ℕ) (told : Board) (end : Next) : Type 0 where
+    pub row : Row
+    pub ended : end ≡ Some (0, (told.0, row))
+    pub same : take wide row ≡ take wide told.1
+    pub long : length row ≡ own
+
+  abbrev pub Does : ℕ → Option Board → Next → Type 0
+  Does own told end = MatchOption told (end ≡ None) (λ u. Leaves own u end)
+
+  -- on this board, orders do what a call does in some frame that begins with what is passed
+  pub record DoesIn (own wide_called : ℕ) (c : Class) (q : Call) (vs ns : List Value) (r : Row) (end : Next) : Type 0 where
+    pub frame : Row
+    pub begins : Begins c.own wide_called (passed q.arguments.items r) frame
+    pub does : Does own (called_in c q frame vs (ns, r)) end
+
+  -- orders stand for a call of a class whose code makes no calls
+  pub record StandsFor (classes : List Class) (others : List Instruction) (own cells wide_called : ℕ) (q : Call) (code : List Order) : Type 0 where
+    pub class : Class
+    pub found : slice_get classes q.node ≡ Some class
+    pub flat : Each MakesNone class.code.items
+    pub does : (vs : List Value) (calls : Calls) (ns : List Value) (r : Row) → length r ≡ own → length vs ≡ cells → length ns ≡ cells
+        → DoesIn own wide_called class q vs ns r (exec others vs calls code 0 (ns, r))
+
+  -- a segment is of a class that has so many own places and cells, and these calls
+  abbrev pub IsSegment : List Class → List Instruction → (ℕ → ℕ) → List Call → (own cells : ℕ) → Segment → Type 0
+  IsSegment classes others widths qs own cells (gives ss code) = GivesSteps others own ss code
+  IsSegment classes others widths qs own cells (calls n ts) = MakesCall widths qs n ts
+  IsSegment classes others widths qs own cells (unfolds n ts code) =
+      (m : MakesCall widths qs n ts) × StandsFor classes others own cells (widths m.call.node) m.call code
 
   -- what is kept was stored: own cells are those after the instant, and the others and all variables as they were
   pub record Stored (vs ns : List Value) (r : Row) (end : Next) : Type 0 where
@@ -137,7 +170,7 @@ pub record IsCodeOf (plain : List PlainClass) (classes : List Class) (k : PlainC
   -- the code is made of segments, which make its steps and each of its calls once,
   pub segments : List Segment
   pub steps : steps_made segments ≡ k.steps
-  pub make : Each (IsSegment k c.others.items (width plain classes) c.calls.items c.own) segments
+  pub make : Each (IsSegment k classes c.others.items (width plain classes) c.calls.items c.own c.cells) segments
   pub once : AreOnce segments
   pub every : (n : ℕ) → n < length c.calls.items → Making n segments
   -- and of stores behind them;

@@ -23,10 +23,11 @@ pub struct Call {
     pub targets: Vec<Target>,
 }
 
-/// The code of a class, with the instructions in it that aren't located, how many places are its own, how many the frames of its calls
-/// need behind them, and how many cells it has with those of its calls.
+/// The code of a class, with the instructions in it that aren't located, how many of its places are variables, which come first, how
+/// many are its own, how many the frames of its calls need behind them, and how many cells it has with those of its calls.
 #[derive(Drop)]
 pub struct Class {
+    pub variables: u32,
     pub own: usize,
     pub behind: usize,
     pub cells: u32,
