@@ -1,4 +1,5 @@
 pub mod Adding
+pub mod AddingUnfolded
 pub mod Apart
 pub mod Belonging
 pub mod CallOrders
@@ -17,3 +18,9 @@ pub mod Standing
 pub mod Stored
 pub mod Underway
 pub mod Within
+pub mod Ends
+pub mod Guarded
+pub mod Middle
+pub mod Moved
+pub mod Passing
+pub mod Unfolded

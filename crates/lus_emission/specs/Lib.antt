@@ -1,4 +1,6 @@
 pub mod Emitted
+pub mod Moved
+pub mod Unfolded
 pub mod Kept
 pub mod Calls
 pub mod Parts

@@ -14,6 +14,11 @@ use lus_values::Memory;
 use std::alloc::Global;
 use std::mem;
 
+/// How many orders the code of a class has at most that gets longer because calls are unfolded, and that of all classes.
+const MOST: usize = 4_096;
+
+const MOST_IN_ALL: usize = 131_072;
+
 /// So many classes that have no code yet.
 fn without_code(alloc: Global, count: usize) -> Result<Vec<Emitted>, Memory>
     ensures size { IfOk result (λ emitted. length emitted.items ≡ count) }
@@ -22,6 +27,7 @@ fn without_code(alloc: Global, count: usize) -> Result<Vec<Emitted>, Memory>
     let mut emitted = Vec::with_capacity(alloc, count)?;
     for _class in 0..count {
         emitted.push(Emitted {
+            variables: 0,
             own: 0,
             behind: 0,
             cells: 0,
@@ -61,9 +67,12 @@ pub fn emit_classes(
     ensures code { IfOk result (λ emitted. PassGiven classes.now → HaveCode classes.now emitted.items) }
 {
     let mut emitted = without_code(alloc, classes.len())?;
+    let mut left = MOST_IN_ALL;
     for place in order {
         let own = taken(alloc, parts, *place);
-        let code = emit_class(alloc, &emitted, &classes[*place], own)?;
+        let most = left.min(MOST) as u32;
+        let code = emit_class(alloc, &emitted, &classes[*place], own, most)?;
+        left = left.saturating_sub(code.code.len());
         emitted[*place] = code;
     }
     Ok(emitted)

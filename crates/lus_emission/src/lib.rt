@@ -5,8 +5,10 @@ mod calls;
 mod class;
 mod classes;
 mod instructions;
+mod moving;
 mod parts;
 mod stores;
 mod targets;
+mod unfolding;
 
 pub use classes::emit_classes;
