@@ -1,6 +1,6 @@
 //! `lus --check PROGRAM` and `lus PROGRAM SCRIPTS`. By the name of another tool, through a link, the same program is that tool:
 //! `lus_explain`, `lus_format`, `lus_draw`, `lus_audit`, `lus_live`, with `--many` the host of many instances and the audit of their log,
-//! `lus_test`, `lus_lsp`, and `lus_bench`, which `bench/run` measures.
+//! `lus_test` and `lus_lsp`.
 #![tactic(auto)]
 
 mod files;
@@ -133,7 +133,7 @@ fn live<O: Sink, F: Sink>(
     status
 }
 
-/// Runs the tool of this name, but `lus` and `lus_bench`, which begin threads: its status.
+/// Runs the tool of this name, but `lus`, which begins threads: its status.
 fn run<O: Sink, F: Sink>(
     rt: &HostRuntime,
     tool: &str,
@@ -219,7 +219,6 @@ fn main(rt: HostRuntime) -> ExitCode {
     };
     ExitCode::from(match status {
         Some(status) => status,
-        None if tool == "lus_bench" => lus_bench::command(&rt, words),
         None => command(&rt, rt.alloc(), words, &mut output, &mut faults),
     })
 }

@@ -20,7 +20,7 @@ use Rattle.lus_instructions.specs.declared.class.Call.{Call}
 use Rattle.lus_instructions.specs.declared.class.Class.{Class}
 use Rattle.lus_classes.specs.View.{call_of, class_of}
 use Rattle.lus_cells.specs.Cells.{AreStateCells, HaveLeaves, expression_cells, operand_cells, kind_leaves, leaves_given, node_cells}
-use Rattle.lus_places.specs.Few.{AreFew, KeepTo}
+use Rattle.lus_emission.specs.Sources.{AreFew, KeepTo}
 use Rattle.lus_turns.specs.Turned.{AreTurned, HaveOneLeft}
 use Rattle.lus_code.specs.Made.{AreSmall, NodesKeepTo}
 
@@ -183,7 +183,7 @@ module _ (p : Program) (classes : List Class) (are : AreTurned p classes) (lefts
       let all = kept g in
       omega (arith, a, b, called, all)
 
--- few enough for their places to be stored
+-- few enough for their cells to be numbered
 pub classes_few : (p : Program) (classes : List Class) → AreTurned p classes → AreSmall p → AreFew classes
 classes_few p classes are small =
     record {

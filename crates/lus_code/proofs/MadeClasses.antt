@@ -1,24 +1,14 @@
--- Classes that are made of the nodes of a normal form belong to them, and can be run once they have places.
+-- Classes that are made of the nodes of a normal form belong to them.
 use Rattle.std.proofs.Common.{◌≡◌, ◌∙◌, ℕ, zero, suc, ◌+◌, ◌<◌, ◌≤◌, List, [], ◌∷◌, ◌++◌, length, length-append, Some, slice_get, get_or, refl, sym, ap, subst, arith, ⊎_elim}
 use Rattle.std.proofs.lemmas.Bool.{cases_lt}
 use Rattle.std.proofs.lemmas.List.{get_or-map, get_or_past, length-map}
 use Rattle.std.proofs.lemmas.Option.{slice_get-get_or}
-use Rattle.lus_values.specs.Lists.{Each}
-use Rattle.lus_program.specs.declared.node.Node.{Node as StoredNode}
-use Rattle.lus_program.specs.Programs.{Node, Program, node_at, empty_node}
-use Rattle.lus_normal.specs.Laws.{AreMadeOf}
-use Rattle.lus_streams.proofs.Lists.{each_item}
-use Rattle.lus_program.specs.Resolved.{NodeResolved}
+use Rattle.lus_program.specs.Programs.{Program, node_at, empty_node}
 use Rattle.lus_classes.specs.Classes.{class_at, empty_class}
 use Rattle.lus_classes.specs.ClassesOf.{AreClassesOf, IsClassOf}
-use Rattle.lus_simulation.specs.Nesting.{depth_of}
-use Rattle.lus_simulation.proofs.Nested.{calls_nested}
-use Rattle.lus_instructions.specs.declared.class.Call.{Call}
 use Rattle.lus_instructions.specs.declared.class.Class.{Class}
-use Rattle.lus_classes.specs.View.{class_of, classes_of, clock_from}
-use Rattle.lus_places.specs.Shaped.{AreNested, CanAllBePlaced, CallsClass}
-use Rattle.lus_turns.specs.Turned.{AreFirstTurned, AreTurned, CallsNode, IsTurned}
-use Rattle.lus_code.specs.Made.{HasSource}
+use Rattle.lus_classes.specs.View.{class_of, classes_of}
+use Rattle.lus_turns.specs.Turned.{AreFirstTurned, AreTurned, IsTurned}
 
 -- no class belongs to no node
 nothing_belongs : (p : Program) → IsClassOf p empty_node empty_class
@@ -75,67 +65,3 @@ more_turned p n classes c are turned =
     in_more [] P all last (suc g) d here = cc
     in_more (e ∷ cs) P all last zero d here = all zero d here
     in_more (e ∷ cs) P all last (suc g) d here = in_more cs (λ h. P (suc h)) (λ h. all (suc h)) (λ k size. last (suc k) (ap suc size)) g d here
-
--- the outputs of a node stand behind its inputs
-formals_within : (p : Program) → HasSource p → (g : ℕ) → (node_at p g).inputs + (node_at p g).outputs ≤ length (node_at p g).variables
-formals_within p has g =
-    let none : (node_at has.source g).inputs + (node_at has.source g).outputs ≤ length (node_at has.source g).variables =
-    each_item (λ f. f.inputs + f.outputs ≤ length f.variables) empty_node has.source.nodes (omega arith) (all_formals has.source.nodes has.checked.resolved.nodes) g in
-    let inputs = (has.normal g).inputs in
-    let outputs = (has.normal g).outputs in
-    let width = (has.normal g).width in
-    omega (arith, none, inputs, outputs, width)
-  where
-    all_formals : (fs : List Node) → Each (NodeResolved has.source) fs → Each (λ f. f.inputs + f.outputs ≤ length f.variables) fs
-    all_formals [] h = tt
-    all_formals (f ∷ fs) h = (h.0.formals, all_formals fs h.1)
-
-module _ (p : Program) (classes : List Class) (are : AreTurned p classes) where
-  call_class : (q : Call) → CallsNode p q → CallsClass classes q
-  call_class q h =
-      let size = are.size in
-      let known = h.known in
-      let low : q.node < length classes = omega (arith, size, known) in
-      found_class classes q.node low (λ d here.
-      record {
-        called = d;
-        found = here;
-        arguments = h.arguments ∙ sym (are.each q.node d here).belongs.inputs;
-      })
-    where
-      found_class : (cs : List Class) (g : ℕ) → g < length cs → ((d : Class) → slice_get cs g ≡ Some d → CallsClass classes q) → CallsClass classes q
-      found_class [] g lt made = absurd (omega arith)
-      found_class (d ∷ cs) zero lt made = made d refl
-      found_class (d ∷ cs) (suc g) lt made = found_class cs g (omega arith) made
-
-  calls_classes : (qs : List Call) → Each (CallsNode p) qs → Each (CallsClass classes) qs
-  calls_classes [] h = tt
-  calls_classes (q ∷ qs) h = (call_class q h.0, calls_classes qs h.1)
-
-  -- the classes have all that they need to be given places
-  pub classes_shaped : HasSource p → CanAllBePlaced classes
-  classes_shaped has g c here =
-      let turned = are.each g c here in
-      let inputs = turned.belongs.inputs in
-      let outputs = turned.outputs in
-      let width = turned.belongs.width in
-      let long = length-map c.tests.items (clock_from c.tests.items) in
-      let within = formals_within p has g in
-      record {
-        outputs = omega (arith, inputs, outputs, width, long, within);
-        turns = turned.turns;
-        calls = calls_classes c.calls.items turned.calls;
-      }
-
-  -- their calls are nested
-  pub classes_nested : HasSource p → AreNested (classes_of classes)
-  classes_nested has =
-      record {
-        depth = depth_of has.source;
-        within = λ g. calls_nested has.source p (classes_of classes) has.checked (record { new_parts = has.new_parts; normal = has.normal; belong = classes_belong p classes are }) g;
-      }
-
--- a program in normal form has as many nodes as its source
-pub as_many : (p : Program) (fs fs' : List StoredNode) → AreMadeOf p fs fs' → length fs' ≡ length fs
-as_many p [] fs' made = ap length made
-as_many p (f ∷ fs) fs' made = ap length made.2 ∙ ap suc (as_many p fs made.1 made.4)

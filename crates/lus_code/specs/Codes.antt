@@ -1,21 +1,19 @@
--- How contracts see the code of a program: the ordered program that it is made of, a class for each node with its code and its
--- plan, and the state cells of each.
+-- How contracts see the code of a program: the ordered program that it is made of, a class for each node with its code, and the state
+-- cells of each.
 use Rattle.std.specs.Prelude.{ℕ, List}
 use Rattle.lus_program.specs.Programs.{Program}
 use Rattle.lus_program.specs.View.{program_seen}
 use Rattle.lus_classes.specs.Classes.{Class}
 use Rattle.lus_order.specs.OrderedPrograms.{OrderedProgram}
 use Rattle.lus_simulation.specs.Codes.{AreCodeOf}
-use Rattle.lus_frames.specs.declared.class.Class.{Class as Framed}
 use Rattle.lus_instructions.specs.declared.class.Class.{Class as StoredClass}
 use Rattle.lus_classes.specs.View.{classes_of}
-use Rattle.lus_keeping.specs.declared.plan.Plan.{Plan}
+use Rattle.lus_orders.specs.declared.class.Class.{Class as Emitted}
 
 pub record ProgramCode : Type 0 where
   pub source : OrderedProgram
   pub classes : List StoredClass
-  pub framed : List Framed
-  pub plans : List Plan
+  pub emitted : List Emitted
   pub cells : List ℕ
 
 -- the plain program and the plain classes of a code

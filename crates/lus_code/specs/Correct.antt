@@ -2,6 +2,7 @@
 use Rattle.std.specs.Prelude.{◌≡◌, ℕ, [], length, IsTrue, Some}
 use Rattle.lus_values.specs.Values.{Row}
 use Rattle.lus_program.specs.Programs.{Program, node_at}
+use Rattle.lus_classes.specs.Passing.{PassGiven}
 use Rattle.lus_classes.specs.States.{State, WithinDepth, fresh}
 use Rattle.lus_classes.specs.Steps.{step}
 use Rattle.lus_simulation.specs.Checked.{IsChecked}
@@ -9,13 +10,10 @@ use Rattle.lus_simulation.specs.Fitting.{has_shape, has_presence}
 use Rattle.lus_simulation.specs.Lineages.{HasLived, outputs_of}
 use Rattle.lus_simulation.specs.LineageLaws.{FaultsAreExact, StepsTo}
 use Rattle.lus_simulation.specs.Nesting.{depth_of}
-use Rattle.lus_frames.specs.Classes.{AreFramed}
-use Rattle.lus_classes.specs.Turns.{AreReady}
-use Rattle.lus_places.specs.Few.{AreAsLong}
+use Rattle.lus_orders.specs.Classes.{AreFramed}
+use Rattle.lus_emission.specs.Made.{AreWithin, HaveCode}
+use Rattle.lus_emission.specs.Sources.{CanAllBeEmitted}
 use Rattle.lus_cells.specs.Cells.{AreStateCells}
-use Rattle.lus_framed_code.specs.Alike.{MakeInstants}
-use Rattle.lus_keeping.specs.Keeping.{HaveFrames}
-use Rattle.lus_keeping.specs.Plans.{ArePlans}
 use Rattle.lus_code.specs.Codes.{IsCodeOf, ProgramCode, plain_classes, program_of}
 
 -- a step of a state that has lived through a lineage, with inputs that fit, gives the outputs of the streams for both
@@ -30,18 +28,18 @@ pub record IsCorrect (c : ProgramCode) : Type 0 where
   -- and each of its nodes has a class, which belongs to the node in a normal form of the program,
   pub size : length c.classes ≡ length (program_of c).nodes
   pub belong : IsCodeOf (program_of c) (plain_classes c)
-  -- makes each step once what it reads is known, and has places for what it keeps, no more than the node's state cells;
-  pub ready : AreReady c.classes
-  pub counted : AreStateCells (program_of c) c.cells
-  pub rows : AreAsLong c.cells c.classes
-  -- calls are nested.
+  -- makes each step once what it reads is known, and passes what is on the clocks of the classes that it calls.
+  pub ready : CanAllBeEmitted c.classes
+  pub passing : PassGiven c.classes
+  -- Calls are nested.
   pub nested : (f : ℕ) → WithinDepth (plain_classes c) (depth_of (program_of c)) f
-  -- The class's code stays within its row, with a frame for each call, and makes the class's instants;
-  pub located : AreFramed c.framed
-  pub frames : HaveFrames c.classes c.framed
-  pub instants : MakeInstants c.classes c.framed
-  -- what the calls keep of an instant is kept by plans.
-  pub planned : ArePlans c.classes c.framed c.plans
+  -- Each class has code, whose frames have room, which makes the class's instants,
+  pub many : length c.emitted ≡ length c.classes
+  pub framed : AreFramed c.emitted
+  pub code : HaveCode c.classes c.emitted
+  -- and has no more cells than the node's state cells.
+  pub counted : AreStateCells (program_of c) c.cells
+  pub within : AreWithin c.cells c.emitted
   -- What is kept represents the past: a fresh state has lived through nothing,
   pub starts : (f : ℕ) → HasLived (program_of c) (plain_classes c) (fresh (plain_classes c) (depth_of (program_of c)) f) f []
   -- a step gives the outputs of the source's streams, and leaves a state that has lived through them,

@@ -5,18 +5,19 @@ ghost use Rattle.lus_values.specs.Lists.{item};
 ghost use Rattle.lus_syntax.specs.declared.refusal.RefusalNumber.TheVariants as numbers;
 ghost use Rattle.lus_program.specs.View.{program_seen};
 ghost use Rattle.lus_program.specs.Refusals.{RefusesFor};
+ghost use Rattle.lus_program.specs.Sound.{IsLimited};
 ghost use Rattle.lus_simulation.specs.Checked.{IsChecked};
+ghost use Rattle.lus_normal.specs.Parts.{HasFewParts};
 ghost use Rattle.lus_cells.specs.Cells.{AreStateCells, FitsCells, NamesTooMany};
 ghost use Rattle.lus_code.specs.Codes.{program_of};
 ghost use Rattle.lus_code.specs.Correct.{IsCorrect};
 
 use crate::classes::classes_of_nodes;
 use lus_cells::cells_of_nodes;
-use lus_frames::Class as Framed;
 use lus_instructions::Class;
-use lus_keeping::Plan;
 use lus_normal::Normal;
 use lus_order::Ordered;
+use lus_orders::Class as Emitted;
 use lus_program::{NodeId, Program, Sound};
 use lus_syntax::Refusal;
 use std::alloc::Global;
@@ -26,8 +27,7 @@ use std::marker::Model;
 pub struct Code {
     source: Ordered,
     classes: Vec<Class>,
-    framed: Vec<Framed>,
-    plans: Vec<Plan>,
+    emitted: Vec<Emitted>,
     cells: Vec<u32>,
 }
 
@@ -43,9 +43,9 @@ impl Model for Code {
 
     ghost coded = { Prim.hlevel (codes, program_expr.the_row.coded, formula.the_row.coded, value.the_row.coded) };
 
-    ghost view = { λ c. record { source = c.source; classes = c.classes.items; framed = c.framed.items; plans = c.plans.items; cells = c.cells.items } };
+    ghost view = { λ c. record { source = c.source; classes = c.classes.items; emitted = c.emitted.items; cells = c.cells.items } };
 
-    ghost invariant = { λ c. IsCorrect (record { source = c.source; classes = c.classes.items; framed = c.framed.items; plans = c.plans.items; cells = c.cells.items }) };
+    ghost invariant = { λ c. IsCorrect (record { source = c.source; classes = c.classes.items; emitted = c.emitted.items; cells = c.cells.items }) };
 }
 
 impl Code {
@@ -73,17 +73,10 @@ impl Code {
     }
 
     /// The code of each class, by the node's place: it makes the class's instants.
-    pub fn framed(&self) -> &[Framed]
-        ensures { result.now ≡ self.now.framed }
+    pub fn emitted(&self) -> &[Emitted]
+        ensures { result.now ≡ self.now.emitted }
     {
-        &self.framed
-    }
-
-    /// The plan of what the calls of each class keep, by the node's place.
-    pub fn plans(&self) -> &[Plan]
-        ensures { result.now ≡ self.now.plans }
-    {
-        &self.plans
+        &self.emitted
     }
 
     /// How many nodes there are.
@@ -108,6 +101,8 @@ impl Code {
 fn sound_of(normal: &Normal) -> &Sound
     ensures same { result.now ≡ normal.now.source.program }
     ensures checked { IsChecked (program_seen normal.now.source.program) }
+    ensures limited { IsLimited (program_seen normal.now.source.program) }
+    ensures few { HasFewParts (program_seen normal.now.source.program) }
 {
     let source = normal.source();
     let _program = source.program();
@@ -125,14 +120,14 @@ pub fn translate(alloc: Global, normal: Normal) -> Result<Code, Refusal>
     ensures refused { IfErr result (RefusesFor numbers.Limit (FitsCells (program_seen normal.source.program))) }
     ensures placed { IfErr result (λ e. e.number ≢ numbers.Memory → NamesTooMany normal.source.program e.line e.column) }
 {
-    let cells = cells_of_nodes(alloc, sound_of(&normal))?;
-    let coded = classes_of_nodes(alloc, normal.program(), normal.orders())?;
+    let sound = sound_of(&normal);
+    let cells = cells_of_nodes(alloc, sound)?;
+    let coded = classes_of_nodes(alloc, normal.program(), normal.orders(), sound.nodes())?;
     let source = normal.into_source();
     Ok(Code {
         source,
         classes: coded.classes,
-        framed: coded.framed,
-        plans: coded.plans,
+        emitted: coded.emitted,
         cells,
     })
 }
@@ -143,8 +138,7 @@ impl Drop for Code {
         let Code {
             source: _,
             classes: _,
-            framed: _,
-            plans: _,
+            emitted: _,
             cells: _,
         } = self;
     }

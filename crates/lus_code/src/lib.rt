@@ -1,4 +1,4 @@
-//! The code of a program: a class for each node, with places for all that an instance keeps.
+//! The code of a program: a class for each node, with code that makes its instants in cells for all that an instance keeps.
 #![tactic(auto)]
 
 mod classes;

@@ -15,6 +15,7 @@ pub mod Ordered
 pub mod Rooms
 pub mod Segments
 pub mod Standing
+pub mod Steps
 pub mod Stored
 pub mod Underway
 pub mod Within

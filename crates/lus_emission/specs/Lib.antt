@@ -6,3 +6,4 @@ pub mod Calls
 pub mod Parts
 pub mod Sources
 pub mod Made
+pub mod Laws

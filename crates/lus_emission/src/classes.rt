@@ -1,11 +1,11 @@
 //! The code of all classes.
 
-ghost use Rattle.std.specs.Prelude.{◌≡◌, ◌≢◌, ◌<◌, ◌^◌, ℕ, IfOk, Some, length, slice_get};
+ghost use Rattle.std.specs.Prelude.{◌≡◌, ◌≢◌, ◌<◌, ◌^◌, ℕ, IfOk, List, Some, length, slice_get};
 ghost use Rattle.lus_graph.specs.Ways.{IsOrder};
 ghost use Rattle.lus_classes.specs.Passing.{PassGiven};
 ghost use Rattle.lus_orders.specs.Classes.{AreFramed};
-ghost use Rattle.lus_emission.specs.Made.{AreBlank, HaveCode};
-ghost use Rattle.lus_emission.specs.Sources.{AreFew, CanAllBeEmitted, HaveParts, class_uses};
+ghost use Rattle.lus_emission.specs.Made.{AreBlank, AreWithin, HaveCode};
+ghost use Rattle.lus_emission.specs.Sources.{AreFew, CanAllBeEmitted, HaveParts, KeepTo, class_uses};
 
 use crate::class::emit_class;
 use lus_instructions::{Class, Part};
@@ -49,7 +49,8 @@ fn taken(alloc: Global, parts: &mut [Vec<Part>], place: usize) -> Vec<Part>
     mem::replace(&mut parts[place], Vec::new(alloc))
 }
 
-/// Gives classes the code of their parts, which are handed over, in an order in which each class comes after those that it calls.
+/// Gives classes the code of their parts, which are handed over, in an order in which each class comes after those that it calls. Where
+/// each keeps to a count, its code has no more cells.
 pub fn emit_classes(
     alloc: Global,
     order: &[usize],
@@ -65,6 +66,7 @@ pub fn emit_classes(
     ensures size { IfOk result (λ emitted. length emitted.items ≡ length classes.now) }
     ensures framed { IfOk result (λ emitted. AreFramed emitted.items) }
     ensures code { IfOk result (λ emitted. PassGiven classes.now → HaveCode classes.now emitted.items) }
+    ensures within { IfOk result (λ emitted. (counts : List ℕ) → KeepTo counts classes.now → AreWithin counts emitted.items) }
 {
     let mut emitted = without_code(alloc, classes.len())?;
     let mut left = MOST_IN_ALL;

@@ -5,6 +5,7 @@ mod calls;
 mod class;
 mod classes;
 mod instructions;
+mod laws;
 mod moving;
 mod parts;
 mod stores;
@@ -12,3 +13,4 @@ mod targets;
 mod unfolding;
 
 pub use classes::emit_classes;
+pub use laws::{code_makes_class_steps, code_nests};

@@ -1,5 +1,9 @@
 //! Declarations and statements, by their tokens.
 
+use crate::parts::count_before;
+use crate::passes::in_memory;
+use crate::reading::tokens_from;
+use lus_faults::Edit;
 use lus_syntax::{Place, Span, Symbol, Token, TokenKind, Word};
 use std::alloc::{AllocError, Global};
 
@@ -133,6 +137,82 @@ impl<'s> Declaration<'s> {
             is_next = is_behind || opens(token);
         }
         Ok(names)
+    }
+
+    /// The names that are lost with it: of a node its own, else all in it, since which of them it declares isn't known where it can't be read.
+    pub fn lost_names(&self, alloc: Global) -> Result<Vec<&'s str>, AllocError> {
+        if self.is_node {
+            return self.names(alloc);
+        }
+        let mut names = Vec::new(alloc);
+        for token in &self.tokens {
+            if let TokenKind::Identifier(name) = token.kind {
+                names.push(name)?;
+            }
+        }
+        Ok(names)
+    }
+
+    /// A kind of token that borrows from the source. Of a name there is none where the declaration doesn't have it.
+    fn own(&self, kind: TokenKind<'_>) -> Option<TokenKind<'s>> {
+        match kind {
+            TokenKind::Identifier(name) => {
+                for token in &self.tokens {
+                    match token.kind {
+                        TokenKind::Identifier(found) if found == name => return Some(token.kind),
+                        _ => {}
+                    }
+                }
+                None
+            }
+            TokenKind::Number(number) => Some(TokenKind::Number(number)),
+            TokenKind::Punctuation(symbol) => Some(TokenKind::Punctuation(symbol)),
+            TokenKind::Keyword(word) => Some(TokenKind::Keyword(word)),
+        }
+    }
+
+    /// Makes a change of the source in the tokens, unless it puts in a name that they don't have: whether it did. What it puts in takes no room
+    /// in the source, and stands where the first token did that begins at the change or behind it, or else at this line and column.
+    pub fn change(
+        &mut self,
+        alloc: Global,
+        edit: &Edit,
+        line: usize,
+        column: usize,
+    ) -> Result<bool, AllocError> {
+        let from = count_before(&self.tokens, edit.byte);
+        let to = count_before(&self.tokens, edit.byte.saturating_add(edit.length));
+        let byte = edit.byte;
+        let start = match self.tokens.get(from) {
+            Some(first) => first.span.start,
+            None => Place { byte, line, column },
+        };
+        let Ok(made) = in_memory(tokens_from(alloc, &edit.text, start))? else {
+            return Ok(false);
+        };
+        let mut tokens = Vec::new(alloc);
+        tokens.extend_from_slice(self.tokens.get(..from).unwrap_or(&[]))?;
+        for token in &made {
+            let Some(kind) = self.own(token.kind) else {
+                return Ok(false);
+            };
+            let span = Span { start, length: 0 };
+            tokens.push(Token { kind, span })?;
+        }
+        tokens.extend_from_slice(self.tokens.get(to..).unwrap_or(&[]))?;
+        for token in self.tokens.get(from..to).unwrap_or(&[]) {
+            self.taken.push(token.span)?;
+        }
+        self.tokens = tokens;
+        Ok(true)
+    }
+
+    /// Has it be passed over where the source is read again, since its tokens aren't those of the source any more.
+    pub fn pass_over(&mut self) -> Result<(), AllocError> {
+        for token in &self.tokens {
+            self.taken.push(token.span)?;
+        }
+        Ok(())
     }
 
     /// Takes some tokens out.

@@ -1,13 +1,15 @@
 -- Steps of an instance against the streams of its source.
-use Rattle.std.proofs.Common.{◌≡◌, ◌↔◌, ◌∙◌, ℕ, zero, suc, ◌+◌, ◌<◌, ◌≤◌, Bool, true, false, IsTrue, length, take, drop, Some, None, Ok, Err, is_some, refl, sym, ap, subst, arith}
+use Rattle.std.proofs.Common.{◌≡◌, ◌↔◌, ◌∙◌, ℕ, zero, suc, ◌+◌, ◌<◌, ◌≤◌, Bool, true, false, IsTrue, length, take, drop, Some, None, Result, Ok, Err, is_some, refl, sym, ap, subst, arith}
 use Rattle.std.specs.Prelude.{slice_get}
+use Rattle.std.specs.Result.{IfErr, IfOk}
 use Rattle.std.proofs.lemmas.List.{length-map}
 use Rattle.lus_values.specs.Lists.{item}
 use Rattle.lus_values.specs.Values.{Row}
 use Rattle.lus_values.proofs.Lists.{below_at}
-use Rattle.lus_program.specs.Programs.{Program, node_at}
+use Rattle.lus_program.specs.Programs.{Node, Program, node_at}
 use Rattle.lus_streams.specs.Clocks.{clock_of}
 use Rattle.lus_classes.specs.Classes.{clock_in}
+use Rattle.lus_classes.specs.States.{State}
 use Rattle.lus_classes.specs.Steps.{is_on_row}
 use Rattle.lus_classes.specs.ClassesOf.{IsClassOf}
 use Rattle.lus_instructions.specs.declared.class.Class.{Class}
@@ -20,7 +22,8 @@ use Rattle.lus_code.proofs.SimulationProofs.FittingRows.{below_true, one_truth, 
 use Rattle.lus_code.proofs.SimulationProofs.Lived.{formals_at}
 use Rattle.lus_code.specs.Codes.{ProgramCode, plain_classes, program_of}
 use Rattle.lus_code.specs.Correct.{IsCorrect}
-use Rattle.lus_running.specs.declared.error.StepError.TheVariants as running
+use Rattle.lus_running.specs.declared.error.StepError.{StepError}
+use Rattle.lus_running.specs.declared.error.StepError.TheVariants as errors
 use Rattle.lus_running.specs.Fits.{FitsPresence}
 use Rattle.lus_running.specs.Instances.{HasFormals, Seen, TakesStep}
 use Rattle.lus_running.specs.Instances.{state_of as instance_state}
@@ -56,23 +59,31 @@ module _ (c : ProgramCode) (correct : IsCorrect c) (f : ℕ) (k : Class) (found 
     has_formals = (((rows_that_fit p correct.checked).fits f i shape presence).long ∙ sym same_inputs, subst (λ n. n + (node_at p f).outputs ≤ length k.tests.items) (sym same_inputs) room)
 
 module _ (c : ProgramCode) (correct : IsCorrect c) (before after : Seen) (k : Class) (found : slice_get c.classes before.node ≡ Some k) (i : Row) (depth : ℕ) (deep : suc depth ≡ depth_of (program_of c)) where
-  pub step_follows : (outputs : Row) → IsTrue (has_shape (program_of c) before.node i) → IsTrue (has_presence (program_of c) before.node i)
-      → TakesStep c.classes depth (node_at (program_of c) before.node).outputs before i (Ok outputs) after
-      → StepsTo (program_of c) (plain_classes c) (instance_state c.classes (depth_of (program_of c)) before) (instance_state c.classes (depth_of (program_of c)) after) before.node i outputs
-  step_follows outputs shape presence takes =
-      let f = before.node in
-      let g = node_at (program_of c) f in
-      let a = takes k found in
-      let goes = correct.gives (instance_state c.classes (suc depth) before) (instance_state c.classes (suc depth) after) f i a.0 shape presence a.1 in
-      let same : outputs_of g a.0 ≡ outputs = ap (λ n. take g.outputs (drop n a.0)) (sym (same_inputs c correct f k found)) ∙ sym a.2 in
-      let shown = subst (λ o. StepsTo (program_of c) (plain_classes c) (instance_state c.classes (suc depth) before) (instance_state c.classes (suc depth) after) f i o) same goes in
-      subst (λ d. StepsTo (program_of c) (plain_classes c) (instance_state c.classes d before) (instance_state c.classes d after) f i outputs) deep shown
+  abbrev node : Node
+  node = node_at (program_of c) before.node
 
-  pub fault_follows : TakesStep c.classes depth (node_at (program_of c) before.node).outputs before i (Err running.Fault) after
-      → EndsStreams (program_of c) (plain_classes c) (instance_state c.classes (depth_of (program_of c)) before) before.node i
-  fault_follows takes =
-      subst (λ d. EndsStreams (program_of c) (plain_classes c) (instance_state c.classes d before) before.node i) deep
-      (correct.faults.only (instance_state c.classes (suc depth) before) before.node i (takes k found))
+  abbrev state_at : Seen → ℕ → State
+  state_at o d = instance_state c.classes c.emitted d o
+
+  pub step_follows : (r : Result Row StepError) → IsTrue (has_shape (program_of c) before.node i) → IsTrue (has_presence (program_of c) before.node i)
+      → TakesStep c.classes c.emitted depth node.outputs before i r after
+      → IfOk r (λ outputs. StepsTo (program_of c) (plain_classes c) (state_at before (depth_of (program_of c))) (state_at after (depth_of (program_of c))) before.node i outputs)
+  step_follows (Err e) shape presence takes = tt
+  step_follows (Ok outputs) shape presence takes =
+      let f = before.node in
+      let a = takes k found in
+      let goes = correct.gives (state_at before (suc depth)) (state_at after (suc depth)) f i a.0 shape presence a.1 in
+      let same : outputs_of node a.0 ≡ outputs = ap (λ n. take node.outputs (drop n a.0)) (sym (same_inputs c correct f k found)) ∙ sym a.2 in
+      let shown = subst (λ o. StepsTo (program_of c) (plain_classes c) (state_at before (suc depth)) (state_at after (suc depth)) f i o) same goes in
+      subst (λ d. StepsTo (program_of c) (plain_classes c) (state_at before d) (state_at after d) f i outputs) deep shown
+
+  pub fault_follows : (r : Result Row StepError) → TakesStep c.classes c.emitted depth node.outputs before i r after
+      → IfErr r (λ e. e ≡ errors.Fault → EndsStreams (program_of c) (plain_classes c) (state_at before (depth_of (program_of c))) before.node i)
+  fault_follows (Ok outputs) takes = tt
+  fault_follows (Err errors.Memory) takes = λ is. absurd cc
+  fault_follows (Err errors.Fault) takes = λ is.
+      subst (λ d. EndsStreams (program_of c) (plain_classes c) (state_at before d) before.node i) deep
+      (correct.faults.only (state_at before (suc depth)) before.node i (takes k found))
 
 true_below : (n : ℕ) (t : ℕ → Bool) → ((x : ℕ) → x < n → t x ≡ true) → all_below n t ≡ true
 true_below zero t h = refl

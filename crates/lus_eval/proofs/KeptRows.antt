@@ -1,5 +1,5 @@
 -- What an instance keeps, as contracts see it.
-use Rattle.std.proofs.Common.{◌≡◌, ◌∙◌, ◌+◌, ◌<◌, ◌≤◌, ℕ, List, [], ◌∷◌, Some, refl, sym, ap, subst, true, length, map, replicate, arith}
+use Rattle.std.proofs.Common.{◌≡◌, ◌∙◌, ◌+◌, ◌<◌, ◌≤◌, ℕ, List, [], ◌∷◌, Option, Some, None, refl, sym, ap, subst, length, map, replicate, arith}
 use Rattle.std.specs.Prelude.{slice_get}
 use Rattle.std.proofs.lemmas.List.{length-map}
 use Rattle.std.proofs.lemmas.Option.{slice_get_within, same_Some}
@@ -9,46 +9,55 @@ use Rattle.lus_program.specs.declared.node.Node.{Node as StoredNode}
 use Rattle.lus_program.specs.declared.node.Program.{Program as StoredProgram}
 use Rattle.lus_program.specs.Programs.{node_at}
 use Rattle.lus_program.specs.View.{node_of, program_seen}
-use Rattle.lus_code.proofs.OrderProofs.Nodes.{node_here}
-use Rattle.lus_frames.specs.declared.class.Class.{Class as Framed}
+use Rattle.lus_classes.specs.States.{State}
 use Rattle.lus_instructions.specs.declared.class.Class.{Class}
-use Rattle.lus_classes.specs.Places.{state_in}
+use Rattle.lus_orders.specs.declared.class.Class.{Class as Emitted}
+use Rattle.lus_orders.specs.Made.{state_in}
+use Rattle.lus_code.proofs.OrderProofs.Nodes.{node_here}
 use Rattle.lus_code.specs.SimulationSpecs.Nesting.{depth_of}
 use Rattle.lus_code.specs.SimulationSpecs.Lineages.{Lineage, HasLived}
 use Rattle.lus_code.proofs.SimulationProofs.Lived.{resets_lived}
-use Rattle.lus_classes.specs.States.{State}
 use Rattle.lus_code.specs.Codes.{ProgramCode, plain_classes, program_of}
 use Rattle.lus_code.specs.Correct.{IsCorrect}
 use Rattle.lus_running.specs.declared.instance.Instance.{Instance}
 use Rattle.lus_running.specs.Instances as instances
 use Rattle.lus_running.specs.Instances.{seen}
+use Rattle.lus_running.specs.Settings.{RunsClasses}
 use Rattle.lus_running.proofs.Placed.{fresh_state, resets_state}
 use Rattle.lus_eval.specs.Objects.{Kept, kept_by, IsEven, IsObjectOf, IsReset, MakesStep, ObjectLived, state_of}
 
-module _ (c : ProgramCode) (classes : List Class) (framed : List Framed) (same : classes ≡ c.classes) (coded : framed ≡ c.framed) (o : Instance) where
-  pub shaped_in_code : IsCorrect c → instances.HasRowsOfClass classes framed (seen o) → IsObjectOf c (kept_by o)
-  shaped_in_code correct s = record {
-    class = s.class;
-    code = s.code;
-    found = ap (λ l. slice_get l o.node) (sym same) ∙ s.found;
-    coded = ap (λ l. slice_get l o.node) (sym coded) ∙ s.coded;
-    cells = s.long.cells;
-    firsts = s.long.firsts;
-    row = s.long.row;
-    few = (
-        let cells = s.long.cells in
-        let firsts = s.long.firsts in
-        let row = correct.rows o.node s.class (ap (λ l. slice_get l o.node) (sym same) ∙ s.found) in
-        omega (arith, cells, firsts, row));
-  }
+-- correct code can be run
+pub runs_correct : (c : ProgramCode) → IsCorrect c → RunsClasses c.classes c.emitted
+runs_correct c correct = record {
+  can = correct.ready;
+  passing = correct.passing;
+  size = correct.many;
+  framed = correct.framed;
+  code = correct.code;
+}
 
-  pub instance_shaped : IsEven o → IsObjectOf c (kept_by o) → instances.HasRowsOfClass classes framed (seen o)
+module _ (c : ProgramCode) (classes : List Class) (emitted : List Emitted) (same : classes ≡ c.classes) (coded : emitted ≡ c.emitted) (o : Instance) where
+  pub shaped_in_code : IsCorrect c → instances.HasRowsOfClass classes emitted (seen o) → IsObjectOf c (kept_by o)
+  shaped_in_code correct s =
+      let there : slice_get c.emitted o.node ≡ Some s.code = ap (λ l. slice_get l o.node) (sym coded) ∙ s.coded in
+      record {
+        class = s.class;
+        code = s.code;
+        found = ap (λ l. slice_get l o.node) (sym same) ∙ s.found;
+        coded = there;
+        cells = s.long.cells;
+        row = s.long.row;
+        few = subst (λ n. n ≤ item 0 c.cells o.node) (sym s.long.cells)
+            (subst (λ (e : Option Emitted). (elim e [ None ↦ 0 | Some f ↦ f.cells ]) ≤ item 0 c.cells o.node) there (correct.within o.node));
+      }
+
+  pub instance_shaped : IsEven o → IsObjectOf c (kept_by o) → instances.HasRowsOfClass classes emitted (seen o)
   instance_shaped even s = record {
     class = s.class;
     code = s.code;
     found = ap (λ l. slice_get l o.node) same ∙ s.found;
     coded = ap (λ l. slice_get l o.node) coded ∙ s.coded;
-    long = record { cells = s.cells; firsts = s.firsts; next_cells = even.cells ∙ s.cells; next_firsts = even.firsts ∙ s.firsts; row = s.row };
+    long = record { cells = s.cells; next_cells = even ∙ s.cells; row = s.row };
   }
 
 pub node_within : (c : ProgramCode) (o : Kept) → IsObjectOf c o → o.node < length c.classes
@@ -69,10 +78,9 @@ reset_kept o o' h = record {
   node = h.node;
   room = h.row;
   cells = ap length h.cells ∙ length-map (seen o).cells (λ v. nil);
-  firsts = ap length h.firsts ∙ length-map (seen o).firsts (λ b. true);
   state = λ c.
       let d = depth_of (program_of c) in
-      (λ j. state_in c.classes d (h.node j) (h.cells j) (h.firsts j)) ∙ resets_state c.classes d o.node (seen o).cells (seen o).firsts;
+      (λ j. state_in (plain_classes c) c.emitted d (h.node j) (h.cells j)) ∙ resets_state (plain_classes c) c.emitted d o.node (seen o).cells;
 }
 
 -- an object that is set back has the form that it had
@@ -81,16 +89,14 @@ reset_shaped c o o' is shaped = record {
   class = shaped.class;
   code = shaped.code;
   found = subst (λ f. slice_get c.classes f ≡ Some shaped.class) (sym is.node) shaped.found;
-  coded = subst (λ f. slice_get c.framed f ≡ Some shaped.code) (sym is.node) shaped.coded;
+  coded = subst (λ f. slice_get c.emitted f ≡ Some shaped.code) (sym is.node) shaped.coded;
   cells = is.cells ∙ shaped.cells;
-  firsts = is.firsts ∙ shaped.firsts;
   row = is.room ∙ shaped.row;
   few = (
       let cells = is.cells in
-      let firsts = is.firsts in
       let node = ap (item 0 c.cells) is.node in
-      let row = shaped.few in
-      omega (arith, cells, firsts, node, row));
+      let few = shaped.few in
+      omega (arith, cells, node, few));
 }
 
 -- and has lived through nothing, whatever it has lived through before
@@ -109,10 +115,9 @@ all_one x (y ∷ ys) = ap (λ zs. x ∷ zs) (all_one x ys)
 pub reset_starts : (c : ProgramCode) → IsCorrect c → (o o' : Instance) → instances.IsReset (seen o) (seen o') → IsObjectOf c (kept_by o) → ObjectLived c o.node (kept_by o') []
 reset_starts c correct o o' h shaped =
     let d = depth_of (program_of c) in
-    let e = shaped.class.extent in
-    let cells : (seen o').cells ≡ replicate e.cells nil = h.cells ∙ all_one nil (seen o).cells ∙ ap (λ n. replicate n nil) shaped.cells in
-    let firsts : (seen o').firsts ≡ replicate e.firsts true = h.firsts ∙ all_one true (seen o).firsts ∙ ap (λ n. replicate n true) shaped.firsts in
-    let start = (λ j. state_in c.classes d (h.node j) (cells j) (firsts j)) ∙ fresh_state c.classes correct.ready d o.node shaped.class shaped.found (correct.nested o.node) in
+    let cells : (seen o').cells ≡ replicate shaped.code.cells nil = h.cells ∙ all_one nil (seen o).cells ∙ ap (λ n. replicate n nil) shaped.cells in
+    let start = (λ j. state_in (plain_classes c) c.emitted d (h.node j) (cells j))
+    ∙ fresh_state c.classes c.emitted (runs_correct c correct) d o.node shaped.code shaped.coded (correct.nested o.node) in
     record {
       node = h.node;
       shaped = reset_shaped c (kept_by o) (kept_by o') (reset_kept o o' h) shaped;
@@ -122,8 +127,8 @@ reset_starts c correct o o' h shaped =
 -- objects of a node have rows as long
 pub same_room : (c : ProgramCode) (o o' : Kept) → IsObjectOf c o → IsObjectOf c o' → o'.node ≡ o.node → o'.room ≡ o.room
 same_room c o o' s s' node =
-    let coded : slice_get c.framed o'.node ≡ Some s.code = ap (slice_get c.framed) node ∙ s.coded in
-    s'.row ∙ ap (λ (k : Framed). k.row) (same_Some s'.code s.code (sym s'.coded ∙ coded)) ∙ sym s.row
+    let coded : slice_get c.emitted o'.node ≡ Some s.code = ap (slice_get c.emitted) node ∙ s.coded in
+    s'.row ∙ ap (λ (k : Emitted). k.own + k.behind) (same_Some s'.code s.code (sym s'.coded ∙ coded)) ∙ sym s.row
 
 module _ (s o' : Instance) (back : instances.IsBack (seen s) (seen o')) where
   -- an instance that goes back behind a step is as it was before it
@@ -132,12 +137,8 @@ module _ (s o' : Instance) (back : instances.IsBack (seen s) (seen o')) where
   back_to c o i outputs shaped is behind =
       let node : o'.node ≡ o.node = back.node ∙ is.node in
       let cells : (seen o').cells ≡ (seen o).cells = back.cells ∙ behind.cells in
-      let firsts : (seen o').firsts ≡ (seen o).firsts = back.firsts ∙ behind.firsts in
       let room : (seen o').row ≡ (seen o).row = back.row ∙ same_room c (kept_by o) (kept_by s) shaped is.shaped is.node in
-      λ j. record { node = node j; cells = cells j; firsts = firsts j; room = room j }
+      λ j. record { node = node j; cells = cells j; room = room j }
 
   pub back_even : IsEven s → IsEven o'
-  back_even even = record {
-    cells = ap length back.next_cells ∙ sym even.cells ∙ sym (ap length back.cells);
-    firsts = ap length back.next_firsts ∙ sym even.firsts ∙ sym (ap length back.firsts);
-  }
+  back_even even = ap length back.next_cells ∙ sym even ∙ sym (ap length back.cells)

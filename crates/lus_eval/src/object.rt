@@ -8,12 +8,12 @@ ghost use Rattle.lus_code.specs.Correct.{IsCorrect};
 ghost use Rattle.lus_eval.specs.Objects.{IsFault, IsReset, IsObjectOf, MakesStep, ObjectLived};
 
 use crate::copying::row_twice;
-use crate::error::StepError;
+use crate::running::running;
 use crate::shape::row_fits;
 use crate::stepping::step_instance;
 use lus_code::Code;
 use lus_program::NodeId;
-use lus_running::{Instance, fits_presence};
+use lus_running::{Instance, StepError, fits_presence};
 use lus_values::{Memory, Row};
 use std::alloc::Global;
 use std::marker::Model;
@@ -25,7 +25,6 @@ pub struct Object {
 }
 
 impl Model for Object {
-    ghost use Rattle.std.specs.Prelude.{map, length};
     ghost use Rattle.std.specs.Coded.{codes};
     ghost use Rattle.lus_values.specs.Coded.{coded_value};
     ghost use Rattle.lus_eval.specs.Objects.{Kept, kept_by, IsEven};
@@ -45,7 +44,7 @@ impl Object {
         requires { node.0 < length (program_of code.now).nodes }
         ensures { IfOk result (λ o. ObjectLived code.now node.0 o []) }
     {
-        let instance = Instance::fresh(alloc, code.classes(), code.framed(), node.0)?;
+        let instance = Instance::fresh(alloc, &running(code), node.0)?;
         Ok(Object { instance })
     }
 
@@ -53,7 +52,7 @@ impl Object {
     pub fn shaped(&self, code: &Code) -> bool
         ensures { IsTrue result ↔ IsObjectOf code.now self.now }
     {
-        self.instance.is_shaped(code.classes(), code.framed())
+        self.instance.is_shaped(&running(code))
     }
 
     /// Whether there are as many inputs as the node has, each a value of its type or absent.

@@ -6,12 +6,12 @@ ghost use Rattle.lus_code.specs.Codes.{program_of};
 ghost use Rattle.lus_running.specs.Instances.{LeavesBehind, seen};
 ghost use Rattle.lus_eval.specs.Objects.{IsEven, IsFault, IsObjectOf, MakesStep, kept_by};
 
-use crate::error::StepError;
+use crate::running::running;
 use lus_code::Code;
-use lus_running::Instance;
+use lus_running::{Instance, StepError};
 use lus_values::Row;
 
-/// One more instant: its outputs, with the rows of the last instant left behind as those for the next one, or a fault where the
+/// One more instant: its outputs, with the cells of the last instant left behind as those for the next one, or a fault where the
 /// source has no streams for these inputs. After an error the instance is as it was.
 pub(crate) fn step_instance(
     instance: &mut Instance,
@@ -28,11 +28,7 @@ pub(crate) fn step_instance(
     ensures even { IsEven instance.new }
     ensures behind { OnOk result (LeavesBehind (seen instance.old) (seen instance.new)) }
 {
-    let classes = code.classes();
+    let on = running(code);
     let node = &code.program().nodes[instance.node as usize];
-    let depth = classes.len() + 1;
-    let framed = code.framed();
-    let plans = code.plans();
-    let outputs = instance.step(classes, framed, plans, depth, inputs, node.outputs as usize)?;
-    Ok(outputs)
+    instance.step(&on, inputs, node.outputs as usize)
 }

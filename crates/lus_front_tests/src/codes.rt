@@ -1,12 +1,11 @@
-//! Classes, their code, places and state cells of small programs. That too many cells are refused is in `rows/`.
+//! Classes, their code and state cells of small programs. That too many cells are refused is in `rows/`.
 
 use lus_clocks::{check_clocks, check_nil};
 use lus_code::{Code, translate};
-use lus_frames::{Class as Framed, Order};
 use lus_grammar::parse;
-use lus_instructions::{Call, Extent, Located};
 use lus_normal::normalise;
 use lus_order::order;
+use lus_orders::{Call, Class as Emitted, Order};
 use lus_program::NodeId;
 use lus_syntax::{Refusal, lex};
 use lus_types::check_types;
@@ -37,17 +36,15 @@ const BEFORE: &str =
 const AROUND: &str =
     "node t() returns (n: int); let n = 0 -> pre n + 1; tel node o(x: int) returns (y: int); var a: int; let a = x + 1; y = a + t() * 2; tel";
 
-/// Whether there are so many cells and first-flags.
-fn is(extent: Extent, cells: u32, firsts: u32) -> bool {
-    extent.cells == cells && extent.firsts == firsts
+/// Whether a call has so many cells, from there on.
+fn stands(call: &Call, cells: u32, length: u32) -> bool {
+    call.cells == cells && call.length == length
 }
 
-/// Whether the part of the second call stands behind that of the first.
+/// Whether the cells of the second call stand behind those of the first.
 fn are_apart(calls: &[Call]) -> bool {
     match calls {
-        [first, second] => {
-            is(first.offset, 0, 0) && is(first.extent, 1, 1) && is(second.offset, 1, 1)
-        }
+        [first, second] => stands(first, 0, 2) && stands(second, 2, 2),
         _ => false,
     }
 }
@@ -98,9 +95,9 @@ fn state_cells_are_counted(rt: HostRuntime) -> Result<(), Fail> {
     Ok(())
 }
 
-fn has_parts_apart(code: &Code) -> bool {
-    match code.classes() {
-        [_, caller] => is(caller.extent, 2, 2) && are_apart(&caller.calls),
+fn has_calls_apart(code: &Code) -> bool {
+    match code.emitted() {
+        [_, caller] => caller.cells == 4 && are_apart(&caller.calls),
         _ => false,
     }
 }
@@ -110,18 +107,18 @@ fn has_state_cells(code: &Code) -> bool {
 }
 
 #[test]
-fn parts_of_calls_stand_behind_each_other(rt: HostRuntime) -> Result<(), Fail> {
+fn cells_of_calls_stand_behind_each_other(rt: HostRuntime) -> Result<(), Fail> {
     let Ok(code) = code_of(rt.alloc(), TWICE) else {
         panic!(rt; "refused")
     };
-    assert!(rt; has_parts_apart(&code));
+    assert!(rt; has_calls_apart(&code));
     assert!(rt; has_state_cells(&code));
     Ok(())
 }
 
 fn has_caller_first(code: &Code) -> bool {
-    match code.classes() {
-        [caller, _] => is(caller.extent, 1, 1) && caller.steps.len() == 2,
+    match code.emitted() {
+        [caller, _] => caller.cells == 2 && caller.calls.len() == 1,
         _ => false,
     }
 }
@@ -132,35 +129,26 @@ fn called_nodes_may_stand_behind_their_callers(rt: HostRuntime) -> Result<(), Fa
         panic!(rt; "refused")
     };
     assert!(rt; has_caller_first(&code));
-    assert!(rt; are_in_place(code.framed()));
     Ok(())
 }
 
-/// Whether an order is no call.
-fn is_act(order: &Order) -> bool {
-    match order {
-        Order::Act(_) => true,
-        Order::Call(_) => false,
-    }
+/// Whether an order is no instruction that isn't located.
+fn is_located(order: &Order) -> bool {
+    !matches!(order, Order::Other(_))
 }
 
-/// Whether an instruction is located.
-fn is_located(located: &Located) -> bool {
-    !matches!(located, Located::Other)
-}
-
-/// Whether no class has a call left in its code, and all of it is located.
-fn are_in_place(framed: &[Framed]) -> bool {
-    framed.iter().all(|class| {
-        class.code.iter().all(is_act) && class.located.iter().all(is_located)
-    })
+/// Whether all instructions of code are located.
+fn are_located(emitted: &[Emitted]) -> bool {
+    emitted
+        .iter()
+        .all(|class| class.code.iter().all(is_located))
 }
 
 #[test]
-fn called_nodes_stand_in_place_of_their_calls(rt: HostRuntime) -> Result<(), Fail> {
+fn instructions_are_located(rt: HostRuntime) -> Result<(), Fail> {
     let Ok(code) = code_of(rt.alloc(), AROUND) else {
         panic!(rt; "refused")
     };
-    assert!(rt; are_in_place(code.framed()));
+    assert!(rt; are_located(code.emitted()));
     Ok(())
 }

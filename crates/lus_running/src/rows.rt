@@ -1,16 +1,14 @@
 //! Rows of what an instance keeps, of one kind.
 
-ghost use Rattle.std.specs.Prelude.{◌≡◌, ◌↔◌, ℕ, false, true, IsTrue, IfOk, OnErr, OnOk};
-ghost use Rattle.lus_running.specs.Instances.{CanStep, IsBack, IsCopy, IsLong, IsNew, IsReset, KeepsSame, LeavesBehind};
-ghost use Rattle.lus_running.specs.Instances.{MakesStep, exchanged, rows_seen};
+ghost use Rattle.std.specs.Prelude.{◌≡◌, ◌+◌, ◌↔◌, ℕ, IsTrue, IfOk};
+ghost use Rattle.lus_running.specs.Instances.{CanStep, IsBack, IsCopy, IsLong, IsNew, IsReset, MakesStep, exchanged, rows_seen};
 
-use crate::error::Failure;
-use crate::kept::Kept;
-use crate::room::Room;
-use crate::setting::Setting;
-use lus_frames::Class as Framed;
-use lus_instructions::{Class, Extent, Held, Stop};
-use lus_keeping::Plan;
+use crate::answering::answer;
+use crate::copying::copy_cells;
+use crate::filling::{empty_all, fill, filled};
+use lus_instructions::words::Word;
+use lus_instructions::{Held, Stop};
+use lus_orders::{Class as Emitted, Setting};
 use lus_values::{Memory, Row};
 use std::alloc::Global;
 use std::mem::swap;
@@ -18,98 +16,101 @@ use std::mem::swap;
 /// What an instance keeps, with room for its next instant.
 #[derive(Drop)]
 pub struct Rows<T> {
-    pub kept: Kept<T>,
-    pub room: Room<T>,
+    pub cells: Vec<T>,
+    /// The cells of the next instant while it is made, and then those of the last one.
+    pub next: Vec<T>,
+    /// The class's own places, and behind them the frames of its calls. What it holds between instants has no meaning.
+    pub row: Vec<T>,
+}
+
+/// Whether a length is the sum of two others.
+fn is_sum(whole: usize, first: usize, rest: usize) -> bool
+    ensures { IsTrue result ↔ (whole ≡ first + rest) }
+{
+    whole >= first && whole - first == rest
 }
 
 impl<T: Held> Rows<T> {
-    /// Rows so long, at their start, with a row so long for instants.
-    pub fn fresh(alloc: Global, extent: Extent, row: u32) -> Result<Rows<T>, Memory>
-        ensures { IfOk result (λ o. (g : ℕ) → IsNew extent row (rows_seen T.entry g o)) }
+    /// Rows as long as code wants them, at their start.
+    pub fn fresh(alloc: Global, class: &Emitted) -> Result<Rows<T>, Memory>
+        ensures { IfOk result (λ o. (g : ℕ) → IsNew class.now (rows_seen T.entry g o)) }
     {
-        let cells = extent.cells as usize;
-        let firsts = extent.firsts as usize;
-        let kept = Kept::fresh(alloc, cells, firsts)?;
-        let room = Room::fresh(alloc, cells, firsts, row as usize)?;
-        Ok(Rows { kept, room })
+        let count = class.cells as usize;
+        let cells = filled(alloc, count, Word::Nil)?;
+        let next = filled(alloc, count, Word::Nil)?;
+        let mut row = filled(alloc, class.own, Word::Absent)?;
+        fill(&mut row, class.behind, Word::Absent)?;
+        Ok(Rows { cells, next, row })
     }
 
     /// As they were when they were fresh; takes no memory.
     pub fn reset(&mut self)
         ensures { (g : ℕ) → IsReset (rows_seen T.entry g self.old) (rows_seen T.entry g self.new) }
     {
-        self.kept.reset();
+        empty_all(&mut self.cells);
     }
 
     /// Rows of another kind that keep the same, or `Structure` where words can't.
     pub fn over<U: Held>(&self, alloc: Global) -> Result<Rows<U>, Stop>
         ensures { IfOk result (λ o. (g : ℕ) → IsCopy (rows_seen T.entry g self.now) (rows_seen U.entry g o)) }
     {
-        let room = self.room.over(alloc)?;
-        let kept = self.kept.over(alloc)?;
-        Ok(Rows { kept, room })
+        let mut cells = filled(alloc, self.cells.len(), Word::Nil)?;
+        copy_cells(alloc, &self.cells, &mut cells)?;
+        let next = filled(alloc, self.next.len(), Word::Nil)?;
+        let row = filled(alloc, self.row.len(), Word::Absent)?;
+        Ok(Rows { cells, next, row })
     }
 
-    /// Whether the rows are so long.
-    pub fn is_long(&self, extent: Extent, row: u32) -> bool
-        ensures { (g : ℕ) → IsTrue result ↔ IsLong extent row (rows_seen T.entry g self.now) }
+    /// Whether the rows are as long as code wants them.
+    pub fn is_long(&self, class: &Emitted) -> bool
+        ensures { (g : ℕ) → IsTrue result ↔ IsLong class.now (rows_seen T.entry g self.now) }
     {
-        self.kept.is_long(extent) && self.room.is_long(extent, row)
+        let count = class.cells as usize;
+        self.cells.len() == count
+            && self.next.len() == count
+            && is_sum(self.row.len(), class.own, class.behind)
     }
 
-    /// One more instant of a node: so many outputs, with the rows of the last instant left behind as those for the next one; or
-    /// the rows keep what they kept.
+    /// One more instant of a class: so many outputs, if it has values, with the cells of the last instant left behind as those for the
+    /// next one; or the rows keep what they kept.
     pub fn step(
         &mut self,
-        alloc: Global,
-        classes: &[Class],
-        framed: &[Framed],
-        plans: &[Plan],
-        depth: usize,
-        node: u32,
-        class: &Class,
-        code: &Framed,
+        on: &Setting<'_>,
         inputs: &Row,
         outputs: usize,
-    ) -> Result<Row, Failure>
-        requires { CanStep classes.now framed.now plans.now depth class.now code.now inputs.now outputs (rows_seen T.entry node self.old) }
-        ensures step { MakesStep classes.now depth class.now outputs (rows_seen T.entry node self.old) inputs.now
-            result (rows_seen T.entry node self.new) }
-        ensures long { IsLong class.now.extent code.now.row (rows_seen T.entry node self.new) }
-        ensures err { OnErr result (KeepsSame (rows_seen T.entry node self.old) (rows_seen T.entry node self.new)) }
-        ensures behind { OnOk result (LeavesBehind (rows_seen T.entry node self.old) (rows_seen T.entry node self.new)) }
+    ) -> Result<Option<Row>, Stop>
+        requires { CanStep on.now inputs.now outputs (rows_seen T.entry 0 self.old) }
+        ensures { MakesStep on.now inputs.now outputs (rows_seen T.entry 0 self.old) result (rows_seen T.entry 0 self.new) }
     {
-        let on = Setting {
-            alloc,
-            classes,
-            framed,
-            plans,
-            depth,
-            node,
-            class,
-            code,
-            cells: &self.kept.cells,
-            firsts: &self.kept.firsts,
-        };
-        let answer = self.room.answer(&on, inputs.items(), outputs);
-        self.take_over(answer.is_ok());
-        answer
+        let answer = answer(
+            on,
+            inputs.items(),
+            outputs,
+            &self.cells,
+            &mut self.next,
+            &mut self.row,
+        );
+        match answer {
+            Ok(Some(found)) => {
+                self.exchange();
+                Ok(Some(found))
+            }
+            Ok(None) => Ok(None),
+            Err(stop) => Err(stop),
+        }
     }
 
-    /// Keeps what an instant left for the next one, if it was made; otherwise what was kept stays.
-    fn take_over(&mut self, is_made: bool)
-        ensures made { is_made ≡ true → self.new ≡ exchanged self.old }
-        ensures not { is_made ≡ false → self.new ≡ self.old }
+    /// Keeps what were the cells of the next instant, and the other way round; takes no memory.
+    fn exchange(&mut self)
+        ensures { self.new ≡ exchanged self.old }
     {
-        if is_made {
-            swap(&mut self.kept, &mut self.room.next);
-        }
+        swap(&mut self.cells, &mut self.next);
     }
 
     /// As they were before the step that was their last call; takes no memory.
     pub fn go_back(&mut self)
         ensures { (g : ℕ) → IsBack (rows_seen T.entry g self.old) (rows_seen T.entry g self.new) }
     {
-        swap(&mut self.kept, &mut self.room.next);
+        self.exchange();
     }
 }

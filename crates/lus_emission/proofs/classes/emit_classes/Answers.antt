@@ -9,7 +9,7 @@ use Rattle.lus_instructions.specs.declared.class.Class.{Class}
 use Rattle.lus_instructions.specs.declared.class.Part.{Part}
 use Rattle.lus_orders.specs.declared.class.Class.{Class as Emitted}
 use Rattle.lus_emission.specs.Made.{CanBeCounted, IsEmitted}
-use Rattle.lus_emission.specs.Sources.{class_uses, nodes_of}
+use Rattle.lus_emission.specs.Sources.{KeepTo, class_uses, nodes_of}
 use Rattle.lus_emission.proofs.Underway.{IsUnderway, all_code, all_framed, next_calls, next_counted, next_parts, underway_first, underway_step}
 use Rattle.lus_emission.proofs.classes.emit_classes.Goals as goal
 
@@ -26,8 +26,8 @@ all_in_order : (classes : List Class) (order : List ℕ) → IsOrder (class_uses
 all_in_order classes order is g lt = is.whole g (let long = length-map classes nodes_of in omega (arith, lt, long))
 
 pub loop-place-init : goal.loop-place-init
-loop-place-init c = λ few.
-    underway_first c.args.classes.now few.counts c.args.parts.now c.in_ok-emitted.emitted.items c.args.order.now c.in_ok-emitted.ensures.size c.in_ok-emitted.ensures.blank
+loop-place-init c = λ counts keep.
+    underway_first c.args.classes.now counts c.args.parts.now c.in_ok-emitted.emitted.items c.args.order.now c.in_ok-emitted.ensures.size c.in_ok-emitted.ensures.blank
 
 pub taken-own-requires : goal.taken-own-requires
 taken-own-requires c =
@@ -42,7 +42,8 @@ bounds-classes-place c = in_order c.args.classes.now c.args.order.now c.loop-pla
 pub index_mut-requires : goal.index_mut-requires
 index_mut-requires c =
     let low = in_order c.args.classes.now c.args.order.now c.loop-place.place-index c.requires.order c.loop-place-test.true in
-    let size = (c.loop-place.invariant c.requires.few).size in
+    let few = c.requires.few in
+    let size = (c.loop-place.invariant few.counts few.counted).size in
     let long = c.loop-place.emitted.ok in
     omega (arith, low, size, long)
 
@@ -57,7 +58,7 @@ emit_class-requires c =
     let k = c.index-classes-place.result in
     let low = in_order classes order i c.requires.order c.loop-place-test.true in
     let here = slice_get_read classes (length classes) x k refl low c.index-classes-place.is in
-    let is = l.invariant few in
+    let is = l.invariant few.counts few.counted in
     let own = next_parts classes few.counts c.args.parts.now l.emitted.items l.parts order i k c.requires.order c.requires.classes c.loop-place-test.true is here c.requires.parts in
     let same = same_Some own.own c.taken-own.result (sym own.found ∙ c.taken-own.ensures.taken) in
     let can = c.requires.classes x k here in
@@ -73,7 +74,7 @@ emit_class-requires c =
     }
 
 pub loop-place-preserved : goal.loop-place-preserved
-loop-place-preserved c = λ few.
+loop-place-preserved c = λ counts keep.
     let classes = c.args.classes.now in
     let order = c.args.order.now in
     let l = c.loop-place in
@@ -84,18 +85,21 @@ loop-place-preserved c = λ few.
     let here = slice_get_read classes (length classes) x k refl low c.index-classes-place.is in
     let made : IsEmitted l.emitted.items k c.in_ok-code.code =
     subst (λ (es : List Emitted). IsEmitted es k c.in_ok-code.code) c.deref.ensures.value c.in_ok-code.ensures in
-    underway_step classes few.counts c.args.parts.now l.emitted.items l.parts order i k c.requires.order c.requires.classes c.loop-place-test.true (l.invariant few) here
-    c.taken-own.new.parts c.in_ok-code.code (few.counted x k here) c.taken-own.ensures.others made
+    underway_step classes counts c.args.parts.now l.emitted.items l.parts order i k c.requires.order c.requires.classes c.loop-place-test.true (l.invariant counts keep) here
+    c.taken-own.new.parts c.in_ok-code.code (keep x k here) c.taken-own.ensures.others made
 
 pub returns : goal.returns
 returns c =
     let l = c.loop-place in
+    let classes = c.args.classes.now in
     let order = c.args.order.now in
     let few = c.requires.few in
-    let whole = take_all l.place-index order (omega arith) in
-    let is = subst (IsUnderway c.args.classes.now few.counts c.args.parts.now l.emitted.items l.parts) whole (l.invariant few) in
+    let done = take_all l.place-index order (omega arith) in
+    let whole = λ (counts : List ℕ) (keep : KeepTo counts classes). subst (IsUnderway classes counts c.args.parts.now l.emitted.items l.parts) done (l.invariant counts keep) in
+    let is = whole few.counts few.counted in
     record {
       size = is.size;
-      framed = all_framed c.args.classes.now few.counts c.args.parts.now l.emitted.items l.parts order is c.requires.classes (all_in_order c.args.classes.now order c.requires.order);
-      code = all_code c.args.classes.now few.counts c.args.parts.now l.emitted.items l.parts order is c.requires.classes (all_in_order c.args.classes.now order c.requires.order);
+      framed = all_framed classes few.counts c.args.parts.now l.emitted.items l.parts order is c.requires.classes (all_in_order classes order c.requires.order);
+      code = all_code classes few.counts c.args.parts.now l.emitted.items l.parts order is c.requires.classes (all_in_order classes order c.requires.order);
+      within = λ counts keep. (whole counts keep).cells;
     }

@@ -1,46 +1,42 @@
-use Rattle.std.proofs.Common.{rules, ◌≡◌, ◌∙◌, true, false, length, arith}
+use Rattle.std.proofs.Common.{◌∙◌, length, map, sym, ap, arith}
 use Rattle.lus_values.specs.View.{entry_of}
-use Rattle.lus_running.proofs.Telling.{answers_not, answers_with, can_keep, is_framed}
+use Rattle.lus_orders.specs.Classes.{begun}
+use Rattle.lus_running.proofs.Telling.{answers_not, answers_with}
 use Rattle.lus_running.proofs.answering.answer.Goals as goal
 
-pub follow_class-requires-clause-class : goal.follow_class-requires-clause-class
-follow_class-requires-clause-class g c = is_framed c.args.on.now c.requires.class
+pub split_at_mut-own-requires : goal.split_at_mut-own-requires
+split_at_mut-own-requires g c = omega (arith, c.requires.long.row)
 
-pub follow_class-requires-clause-cells : goal.follow_class-requires-clause-cells
-follow_class-requires-clause-cells g c =
-    let long = (can_keep c.args.on.now c.requires.class).cells in
-    omega (arith, long, c.requires.fits.cells)
+pub copy_cells-requires : goal.copy_cells-requires
+copy_cells-requires g c = c.requires.long.cells ∙ sym c.requires.long.next_cells
 
-pub follow_class-requires-clause-firsts : goal.follow_class-requires-clause-firsts
-follow_class-requires-clause-firsts g c =
-    let long = (can_keep c.args.on.now c.requires.class).firsts in
-    omega (arith, long, c.requires.fits.firsts)
+pub follow_class-requires-clause-room : goal.follow_class-requires-clause-room
+follow_class-requires-clause-room g c =
+    let long = c.requires.long in
+    let split = c.split_at_mut-own.ensures in
+    record {
+      cells = long.cells;
+      next = c.copy_cells.auto.copies ∙ long.next_cells;
+      own = c.begin.auto.own ∙ split.front_len;
+      behind = omega (arith, split.back_len, long.row);
+    }
 
 pub outputs_in-requires : goal.outputs_in-requires
 outputs_in-requires g c =
-    let own = (can_keep c.args.on.now c.requires.class).own in
-    omega (arith, own, c.requires.outputs, c.requires.fits.row)
+    let own = c.follow_class.auto.own ∙ c.begin.auto.own ∙ c.split_at_mut-own.ensures.front_len in
+    omega (arith, own, c.requires.outputs)
 
-pub returns-then-not-branch : goal.returns-then-not-branch
-returns-then-not-branch g c =
+pub returns-then-not-made : goal.returns-then-not-made
+returns-then-not-made g c =
     let s = c.args.on.now in
-    let fits = c.requires.fits in
-    let wide : length c.forget.new.row ≡ s.code.now.row = c.forget.auto.row ∙ fits.row in
-    let still : length c.place.new.variables ≡ s.code.now.row = c.place.auto.variables ∙ wide in
-    let faulted : c.in_ok-follow_class.field-0 ≡ false = search rules in
-    answers_not g.T.Held.entry s c.requires.class entry_of c.args.outputs c.args.inputs.now c.requires.outputs c.requires.inputs c.requires.given fits.cells fits.firsts
-    c.args.row.now c.forget.new.row c.place.new.variables fits.row wide still c.forget.ensures c.in_ok-place.ensures
-    c.follow_class.new.row c.in_ok-follow_class.field-0 faulted c.in_ok-follow_class.ensures
+    let i = map entry_of c.args.inputs.now in
+    answers_not g.T.Held.entry s i c.args.cells.now c.copy_cells.new.copies c.begin.new.own c.follow_class.new.next c.follow_class.new.own c.in_ok-made.made
+    c.in_ok-copy_cells.ensures (c.in_ok-begin.ensures ∙ ap (λ n. begun n i) c.split_at_mut-own.ensures.front_len) c.in_ok-made.ensures c.if-not-made.true
 
 pub returns : goal.returns
 returns g c =
     let s = c.args.on.now in
-    let fits = c.requires.fits in
-    let wide : length c.forget.new.row ≡ s.code.now.row = c.forget.auto.row ∙ fits.row in
-    let still : length c.place.new.variables ≡ s.code.now.row = c.place.auto.variables ∙ wide in
-    let made : c.in_ok-follow_class.field-0 ≡ true = search rules in
-    answers_with g.T.Held.entry s c.requires.class entry_of c.args.outputs c.args.inputs.now c.requires.outputs c.requires.inputs c.requires.given fits.cells fits.firsts
-    c.args.row.now c.forget.new.row c.place.new.variables fits.row wide still c.forget.ensures c.in_ok-place.ensures
-    c.follow_class.new.row c.in_ok-follow_class.field-0 made c.in_ok-follow_class.ensures
-    c.copy_cells.new.copies c.copy_flags.new.copies c.in_ok-copy_cells.ensures c.copy_flags.ensures
-    c.keep_class.new.cells c.keep_class.new.firsts c.in_ok-keep_class.ensures c.outputs_in.result c.outputs_in.ensures
+    let i = map entry_of c.args.inputs.now in
+    answers_with g.T.Held.entry s i c.args.cells.now c.copy_cells.new.copies c.begin.new.own c.follow_class.new.next c.follow_class.new.own c.in_ok-made.made
+    c.in_ok-copy_cells.ensures (c.in_ok-begin.ensures ∙ ap (λ n. begun n i) c.split_at_mut-own.ensures.front_len) c.in_ok-made.ensures c.if-not-made.false
+    (length c.args.inputs.now) c.args.outputs c.in_ok-found.found c.in_ok-found.ensures

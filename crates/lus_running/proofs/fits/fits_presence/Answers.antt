@@ -10,10 +10,10 @@ returns-then-not-fits_look c =
     let x = c.loop-variable.variable in
     let lt : x < k.inputs = search rules in
     let off : c.fits_look.result ≡ false = search rules in
-    (λ no. absurd (true≢false (sym no)), λ fits. absurd (true≢false (sym (c.fits_look.ensures.1 (fit_looks k c.requires i fits x lt)) ∙ off)))
+    (λ no. absurd (true≢false (sym no)), λ fits. absurd (true≢false (sym (c.fits_look.ensures.1 (fit_looks k i c.requires fits x lt)) ∙ off)))
 
 pub returns : goal.returns
 returns c =
     let k = c.args.class.now in
     let i = map entry_of c.args.inputs.now in
-    (λ yes. looks_fit k c.requires i (λ x lt. c.loop-variable.invariant x (omega (arith, lt, c.loop-variable-test.false))), λ fits. refl)
+    (λ yes. looks_fit k i c.requires (λ x lt. c.loop-variable.invariant x (omega (arith, lt, c.loop-variable-test.false))), λ fits. refl)

@@ -9,7 +9,7 @@ use Rattle.lus_running.specs.Fits.{FitsPresence}
 use Rattle.lus_eval.specs.Objects.{IsObjectOf, Kept}
 use Rattle.lus_eval.proofs.Following.{one_test, presence_told}
 use Rattle.lus_eval.proofs.KeptRows.{node_within}
-use Rattle.lus_eval.proofs.Passing.{inputs_test_inputs}
+use Rattle.lus_eval.proofs.InputClocks.{inputs_test_inputs}
 use Rattle.lus_eval.proofs.object.Object.fits_presence.Goals as goal
 
 -- the class that is read is that of the object's node

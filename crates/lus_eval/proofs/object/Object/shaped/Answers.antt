@@ -7,8 +7,9 @@ pub returns : goal.returns
 returns c =
     let code = c.args.code.now in
     let o = c.self.inside.instance in
-    let same = c.classes.ensures.same in
-    let coded = c.framed.ensures in (
-      λ yes. subst (IsObjectOf code) c.self.view_is (shaped_in_code code c.classes.result.now c.framed.result.now same coded o c.classes.ensures.correct (c.is_shaped.ensures.0 yes)),
-      λ s. c.is_shaped.ensures.1 (instance_shaped code c.classes.result.now c.framed.result.now same coded o c.self.invariant (subst (IsObjectOf code) (sym c.self.view_is) s)),
+    let on = c.running.result in
+    let same = c.running.ensures.classes in
+    let coded = c.running.ensures.emitted in (
+      λ yes. subst (IsObjectOf code) c.self.view_is (shaped_in_code code on.classes.now on.emitted.now same coded o c.running.ensures.correct (c.is_shaped.ensures.0 yes)),
+      λ s. c.is_shaped.ensures.1 (instance_shaped code on.classes.now on.emitted.now same coded o c.self.invariant (subst (IsObjectOf code) (sym c.self.view_is) s)),
     )

@@ -3,7 +3,7 @@ use Rattle.std.proofs.Common.{◌≡◌, subst, sym, IsTrue}
 use Rattle.std.specs.Result.{IfOk, IfErr}
 use Rattle.lus_code.specs.SimulationSpecs.Fitting.{has_shape, has_presence}
 use Rattle.lus_code.specs.Codes.{program_of}
-use Rattle.lus_eval.specs.declared.error.StepError.TheVariants as errors
+use Rattle.lus_running.specs.declared.error.StepError.TheVariants as errors
 use Rattle.lus_eval.specs.Objects.{Kept, kept_by, IsFault, IsObjectOf, MakesStep}
 use Rattle.lus_eval.proofs.object.Object.step.Goals as goal
 

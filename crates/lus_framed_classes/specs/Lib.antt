@@ -1,7 +1,0 @@
-pub mod Binding
-pub mod Code
-pub mod Kept
-pub mod Made
-pub mod Emitting
-pub mod Calling
-pub mod InRows

@@ -1,9 +1,0 @@
-mod Having
-mod InPlace
-mod Walking
-mod LikeFrames
-mod Further
-mod Planned
-mod Running
-mod Adding
-mod Plans

@@ -1,4 +1,0 @@
-pub mod Keeping
-pub mod Laws
-pub mod Planning
-pub mod Plans

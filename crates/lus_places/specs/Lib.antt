@@ -1,3 +1,0 @@
-pub mod Placing
-pub mod Shaped
-pub mod Few

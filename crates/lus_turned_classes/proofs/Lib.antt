@@ -1,4 +1,0 @@
-mod Found
-mod Emitted
-mod Passing
-mod Steps
