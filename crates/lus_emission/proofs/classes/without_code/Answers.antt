@@ -13,7 +13,7 @@ pub loop-class-preserved : goal.loop-class-preserved
 loop-class-preserved c =
     let l = c.loop-class in
     let es = l.emitted.items in
-    let e : Class = record { own = 0; behind = 0; cells = 0; code = c.new.result; others = c.new-in-loop-class.result; calls = c.new-in-loop-class-2.result } in
+    let e : Class = record { variables = 0; own = 0; behind = 0; cells = 0; code = c.new.result; others = c.new-in-loop-class.result; calls = c.new-in-loop-class-2.result } in
     let more = c.in_ok-push.ensures.items in
     record {
       many = ap (λ (all : List Class). length all) more ∙ length-append es (e ∷ []) ∙ ap (λ n. n + 1) l.invariant.many;
