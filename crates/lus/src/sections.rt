@@ -220,8 +220,9 @@ const S6: &str = "S6: out of memory
 
 const WARNINGS: &str = "Warnings
 
-`lus_explain --warnings PROGRAM [SCRIPTS]` tells what the author of an accepted program can
-hardly have meant. No status changes. A name that begins with `_` needs no use.
+`lus_explain PROGRAM [SCRIPTS]` tells what the author of an accepted program can hardly have
+meant. The status is 0; with `--deny-warnings` it is 1. With `--no-warnings` nothing is told. A
+name that begins with `_` needs no use.
 
 unused_input, unused_local
 
@@ -322,6 +323,34 @@ result out of the range of `int`. A call that computes it is `refused fault`.
     tel
 
 Write other numbers, or divide by what is never 0.
+
+hidden_constant
+
+A variable has the name of a constant, which its node can't use then.
+
+    const limit = 10;
+    node over(x, limit: int) returns (high: bool);
+    let
+      high = x > limit;
+    tel
+    
+    node n(x: int) returns (high: bool);
+    let
+      high = x > limit;
+    tel
+
+Give one of them another name.
+
+same_branches
+
+Both branches of an `if` are written alike, so it is the same whatever its test says.
+
+    node n(up: bool; x: int) returns (y: int);
+    let
+      y = if up then x + 1 else x + 1;
+    tel
+
+Write what was meant in one of them, or the branch alone.
 ";
 
 /// The section on this number of an error, or on warnings.

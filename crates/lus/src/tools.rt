@@ -6,7 +6,7 @@ use std::alloc::{AllocError, Global};
 /// brackets where it may be missing and dots where it may be there several times.
 pub fn arguments_of(tool: &str) -> Option<&'static str> {
     match tool {
-        "lus_explain" => Some("--json --warnings --script= --error= PROGRAM [SCRIPTS]"),
+        "lus_explain" => Some("--json --no-warnings --deny-warnings --script= --error= PROGRAM [SCRIPTS]"),
         "lus_format" => Some("--check --write FILE.."),
         "lus_draw" => Some(
             "--html --waves --csv --vcd --all --from= --to= --signals= --instance= PROGRAM [JOURNAL] [LOG]",
@@ -24,6 +24,7 @@ pub fn arguments_of(tool: &str) -> Option<&'static str> {
 /// Arguments of a tool for people, of each of which pairs one at most is taken.
 pub fn apart_in(tool: &str) -> &'static [(&'static str, &'static str)] {
     match tool {
+        "lus_explain" => &[("--no-warnings", "--deny-warnings")],
         "lus_format" => &[("--check", "--write")],
         "lus_draw" => &[
             ("--html", "--waves"),

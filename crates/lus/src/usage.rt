@@ -7,17 +7,18 @@ use lus_devices::{Failure, Sink, write_all};
 
 const VERSION: &str = " 0.1.0\n";
 
-const EXPLAIN: &str = "usage: lus_explain [--json] [--warnings] PROGRAM [SCRIPTS]
+const EXPLAIN: &str = "usage: lus_explain [--json] [--no-warnings | --deny-warnings] PROGRAM [SCRIPTS]
        lus_explain --script NODE PROGRAM
        lus_explain --error NUMBER
 
-Says why a program, or its scripts, are rejected, and what to write; of an accepted program
-its types and nodes. It runs nothing.
+Says why a program, or its scripts, are rejected, and what to write; of an accepted program its
+types and nodes, and what its author can hardly have meant, which are warnings. It runs nothing.
 
-  --json         an object of JSON for each error, on a line of its own
-  --warnings     also what an accepted program's author can hardly have meant
-  --script NODE  scripts to begin from, for an instance of NODE
-  --error NUMBER what E1 to E11 and S1 to S6 mean, or `warnings`, and what to do
+  --json           an object of JSON for each error and each warning, on a line of its own
+  --no-warnings    no warnings
+  --deny-warnings  status 1 also where there is a warning
+  --script NODE    scripts to begin from, for an instance of NODE
+  --error NUMBER   what E1 to E11 and S1 to S6 mean, or `warnings`, and what to do
 
 Status: 0 accepted, 1 the program is rejected, 2 the scripts, 3 a file or the output fails, 4 out of memory.
 ";
@@ -53,7 +54,7 @@ shows the journal's lines. Status: 0 drawn, 1 to 4 as lus.
 ";
 
 const AUDIT: &str = "usage: lus_audit [--why] PROGRAM JOURNAL
-       lus_audit --many PROGRAM NODE LOG
+       lus_audit --many [--why] PROGRAM NODE LOG
 
 Says whether each reply of a journal is the right one to its request, after those before it,
 by a new run of the program: `NAME lawful` for each instance, or the first wrong line with
@@ -61,21 +62,23 @@ the right one.
 
   --why  why each request of a valid journal that was refused is: which input, its type or
          clock; or which operation has no value, with its operands and its place
-  --many a log of instances of NODE, which `lus_live --many` wrote
+  --many a log of instances of NODE, which `lus_live --many` wrote; with --why a file, no pipe
 
 Status: 0 valid, 1 the program is rejected, 2 a wrong line, or no journal,
 3 a file or the output fails, 4 out of memory.
 ";
 
-const LIVE: &str = "usage: lus_live [--json | --csv] [--caller NAME] PROGRAM NODE [JOURNAL]
+const LIVE: &str = "usage: lus_live [--caller NAME] PROGRAM NODE [JOURNAL]
+       lus_live --json | --csv PROGRAM NODE [[--caller NAME] [--sync] JOURNAL]
        lus_live --many [--json] PROGRAM NODE [[--caller NAME] [--sync] LOG]
 
 Runs a node in a pipe: reads calls from standard input, a line of JSON each, and writes the
 journal's entry of each, by the caller NAME or `user`, before it reads the next; with --json its
 reply as JSON. With --csv it reads inputs as CSV below a line of their names, and writes outputs
 so. It goes on behind JOURNAL, replayed first: `lus_live PROGRAM NODE log < calls >> log`, also
-after any kill; with --json it writes each entry to JOURNAL itself, and then the reply, as with
---many to LOG, with --sync to its disk. A line of --many is INSTANCE CALLER CALL, or an old entry.
+after any kill; with --json or --csv it writes each entry to JOURNAL itself, and then the reply, as
+with --many to LOG, with --sync to its disk. A line of --many is INSTANCE CALLER CALL, or an old
+entry.
 
   [18, 19, 22]                 a step with the inputs in their order, null for an absent one
   {\"inputs\": {\"low\": 19, ..}}  a step with the inputs by their names

@@ -13,7 +13,6 @@ use Rattle.lus_hosting.specs.LawfulSpecs.Errors.{BlamesIf}
 use Rattle.lus_hosting.specs.LawfulSpecs.Findings.{AreNone}
 use Rattle.lus_hosting.specs.LawfulSpecs.declared.error.AuditError.{AuditError}
 use Rattle.lus_hosting.specs.LawfulSpecs.declared.error.AuditError.TheVariants as errors
-use Rattle.lus_hosting.specs.Audits.{IsNoLog}
 use Rattle.lus_audit.specs.Logs.{LogAuditFails}
 use Rattle.lus_audit.specs.Ends.{AuditFails, IsOfFile, audit_fault}
 
@@ -58,10 +57,3 @@ module _ (read_fails : Known → Type 0) (file journal : Known) where
   log_program_fails name faults.Words never = absurd never
   log_program_fails name faults.Output never = absurd never
   log_program_fails name faults.Start never = absurd never
-
-  -- and of the log
-  pub log_fails : (name : Text) (e : AuditError) (p : Program) (left ahead : Option Bytes) → IsOfFile file p → Holds journal left → ahead ≡ left
-      → BlamesIf (IsNoLog p ahead) e → LogAuditFails read_fails file journal name (audit_fault e)
-  log_fails name (errors.Line n) p left ahead accepted holds same blames = (p, accepted, file_so (IsNoLog p) journal left ahead holds same (blames n refl))
-  log_fails name errors.Read p left ahead accepted holds same blames = inr (p, accepted)
-  log_fails name errors.Memory p left ahead accepted holds same blames = tt

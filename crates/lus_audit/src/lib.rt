@@ -2,6 +2,7 @@
 //! whether a log of many instances is.
 #![tactic(auto)]
 
+mod log_reasons;
 mod log_words;
 mod logs;
 mod reasons;

@@ -4,6 +4,7 @@ use crate::choosing::chosen;
 use crate::clock::Clocks;
 use crate::completing::value_of_variable;
 use crate::declared::wrong_clock;
+use crate::lacking::told_of_lacking;
 use crate::mending::{Context, mended};
 use crate::placing::{Misplaced, misplaced_in};
 use crate::redeclaring::{Redeclared, declaration_at_fault, declaration_of_result};
@@ -116,7 +117,7 @@ fn told(
     }
     finding.note = Some(advice_on(alloc, on, found)?);
     finding.edit = mended(alloc, on, found, all)?;
-    Ok(finding)
+    told_of_lacking(alloc, on, finding, found, all)
 }
 
 /// A finding on a result with the declaration of its variable, and how that would read.

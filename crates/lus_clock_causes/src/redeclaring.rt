@@ -128,6 +128,27 @@ pub fn declaration_at_fault<'t>(
     }
 }
 
+/// The variable on the left of the equation with the clock of the right side, where that mends an equation and none fails that was right.
+pub fn declaration_of_left<'t>(
+    alloc: Global,
+    on: Context<'t>,
+    left: &'t Name,
+    clock: Clock<'t>,
+) -> Result<Option<Redeclared<'t>>, AllocError> {
+    with_clock(alloc, on, left, clock, 1)
+}
+
+/// The variable on the left of the equation, where it may have the clock of an expression that stands at a place of its own clock.
+pub fn may_be_declared<'t>(
+    on: Context<'t>,
+    left: &'t Name,
+    found: Misplaced<'_>,
+) -> Option<Variable<'t>> {
+    let variable = variable_named(on.clocks.node, left.text.as_str())?;
+    let own = on.clocks.clock(left.text.as_str())?;
+    (own.is(found.wanted) && may_have(on.clocks, variable, found.has)).then_some(variable)
+}
+
 /// The change that declares the variable of a result with the result's clock, whichever equations use it.
 pub fn declaration_of_result<'t>(
     alloc: Global,

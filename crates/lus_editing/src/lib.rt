@@ -14,7 +14,6 @@ mod queries;
 mod renames;
 mod server;
 mod serving;
-mod warned;
 
 pub use compiler::{Compiler, RenameProblem};
 pub use conversation::{ConversationError, converse};

@@ -8,12 +8,13 @@ use lus_syntax::{Place, Span, Symbol, Token, TokenKind, Word};
 use std::alloc::{AllocError, Global};
 
 /// A node, or a group of types or constants: where it begins, what is left of its tokens, and where those stood that were taken out.
-/// Of a node whether variables without an equation have values.
+/// Of a node whether variables without an equation have values. Whether words of its head are others than those of the source.
 #[derive(Drop)]
 pub(crate) struct Declaration<'s> {
     pub start: Place,
     pub is_node: bool,
     pub is_filled: bool,
+    pub is_rewritten: bool,
     pub tokens: Vec<Token<'s>>,
     pub taken: Vec<Span>,
 }
@@ -41,6 +42,7 @@ pub(crate) fn declarations_of<'s>(
                 start: token.span.start,
                 is_node: matches!(token.kind, TokenKind::Keyword(Word::Node | Word::Function)),
                 is_filled: false,
+                is_rewritten: false,
                 tokens: Vec::new(alloc),
                 taken: Vec::new(alloc),
             })?;
@@ -97,7 +99,8 @@ impl<'s> Declaration<'s> {
         None
     }
 
-    /// The place of the sign behind the left side of the statement that a token stands in, if that begins as an equation does.
+    /// The place of the sign behind the left side of the statement that a token stands in, if that begins as an equation does: an equals
+    /// sign, or another sign that has one behind it.
     pub fn sign_at(&self, at: usize) -> Option<usize> {
         let (first, behind) = self.statement_at(at)?;
         for place in first..behind {
@@ -105,10 +108,33 @@ impl<'s> Declaration<'s> {
                 TokenKind::Identifier(_) => {}
                 TokenKind::Punctuation(Symbol::Comma | Symbol::Open | Symbol::Close) => {}
                 TokenKind::Punctuation(Symbol::Equal) if place > first => return Some(place),
+                TokenKind::Punctuation(_)
+                    if place > first && self.is_equal(place.saturating_add(1)) => {
+                    return Some(place);
+                }
                 _ => return None,
             }
         }
         None
+    }
+
+    /// Whether an equals sign stands at a place.
+    fn is_equal(&self, place: usize) -> bool {
+        self.tokens.get(place).is_some_and(|token| matches!(
+            token.kind,
+            TokenKind::Punctuation(Symbol::Equal)
+        ))
+    }
+
+    /// The line of the last token that begins before a byte.
+    pub fn line_before(&self, byte: usize) -> usize {
+        match self
+            .tokens
+            .get(count_before(&self.tokens, byte).saturating_sub(1))
+        {
+            Some(token) => token.span.start.line,
+            None => 0,
+        }
     }
 
     /// The names that it declares: of a node its own, and all of what opens no declaration.
@@ -205,6 +231,15 @@ impl<'s> Declaration<'s> {
         }
         self.tokens = tokens;
         Ok(true)
+    }
+
+    /// The bytes of some tokens, from the first one's first up to that behind the last one's last.
+    pub fn bytes_of(&self, range: Range) -> (usize, usize) {
+        let (from, to) = range;
+        match (self.tokens.get(from), self.tokens.get(to.saturating_sub(1))) {
+            (Some(first), Some(last)) => (first.span.start.byte, last.span.end().byte),
+            _ => (0, 0),
+        }
     }
 
     /// Has it be passed over where the source is read again, since its tokens aren't those of the source any more.

@@ -1,2 +1,4 @@
 pub mod CommandLine
+pub mod Runs
+pub mod Tables
 pub mod Ends

@@ -1,11 +1,14 @@
 //! `lus_live PROGRAM NODE` makes the calls that its input has, a line each, on an instance of the node, and writes its journal as it
-//! grows, or with `--json` each reply as an object of JSON, once its call is in the journal that is named, or with `--csv` the outputs of
-//! steps as records.
+//! grows, or with `--json` each reply as an object of JSON, or with `--csv` the outputs of steps as records, once the call is in the journal
+//! that is named, and with `--sync` once that was synced with it.
 #![tactic(auto)]
 
+mod beginning;
 mod log;
 mod notes;
+mod runs;
 mod shell;
+mod tables;
 mod words;
 
 pub use log::Log;

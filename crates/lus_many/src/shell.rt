@@ -24,7 +24,7 @@ use lus_cli::{Fault, lines_status, read_program, tell, tell_nodes};
 use lus_devices::{Folder, Sink, Source};
 use lus_hosting::lus_bursts::{Syncs, Waiting};
 use lus_hosting::lus_live_instance::lus_machine::{NodeId, Program};
-use lus_hosting::lus_live_instance::{RecoveryError, Score};
+use lus_hosting::lus_sessions::{RecoveryError, Score};
 use lus_hosting::{HostError, LogLines, Recovered, host_behind, host_log, recover_log};
 use lus_lines::Buffered;
 use lus_live::Log;

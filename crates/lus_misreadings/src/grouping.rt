@@ -3,6 +3,7 @@
 use crate::edits::edit_at;
 use crate::fault::{Fault, Range};
 use crate::gate::{about_marks, words_in};
+use crate::pattern::operand_end;
 use crate::places::is_equated;
 use crate::trial::token_of;
 use crate::words::{EQUALITIES, ORDERS, RECKONERS, compares, is_any, is_infix, leads};
@@ -20,7 +21,7 @@ const MOST_PLACES: usize = 12;
 #[derive(Drop)]
 pub struct Mix {
     pub sentence: String,
-    pub note: &'static str,
+    pub note: String,
     pub edit: Option<Edit>,
 }
 
@@ -303,7 +304,7 @@ fn chained(
     let byte = found.span.start.byte;
     Ok(Some(Mix {
         sentence: String::from_str(alloc, "comparisons cannot be chained")?,
-        note: note_on_chain(fault),
+        note: String::from_str(alloc, note_on_chain(fault))?,
         edit: edit_at(alloc, fault, (byte, byte), text, &about)?,
     }))
 }
@@ -319,6 +320,33 @@ fn sentence_on(alloc: Global, fault: &Fault<'_>, openings: &[usize]) -> Result<S
     }
 }
 
+/// Where the last operand of an `if` ends, if an operator goes on behind it that binds no closer than the one before the `if`: then what
+/// follows may not belong to the `if`.
+fn early_end(fault: &Fault<'_>, openings: &[usize], range: Range) -> Option<usize> {
+    let (from, to) = range;
+    if !is_any(fault.text(from), &["if"]) || from != fault.place {
+        return None;
+    }
+    let mut depth = 0usize;
+    let mut open = 0usize;
+    for place in from..to {
+        match fault.text(place) {
+            "(" | "{" => depth = depth.saturating_add(1),
+            ")" | "}" => depth = depth.saturating_sub(1),
+            "if" if depth == 0 => open = open.saturating_add(1),
+            "else" if depth == 0 && open > 1 => open = open.saturating_sub(1),
+            "else" if depth == 0 => {
+                let end = operand_end(fault, place.saturating_add(1));
+                let lead = strength_behind(lead_of(fault, nearest(openings)))?;
+                let behind = strength_behind(fault.text(end))?;
+                return (end < to && behind <= lead).then_some(end);
+            }
+            _ => {}
+        }
+    }
+    None
+}
+
 /// What is said of operators that parentheses round some tokens part.
 fn parted(
     alloc: Global,
@@ -330,10 +358,21 @@ fn parted(
         return Ok(None);
     };
     let inner = fault.text_of(range);
+    if let Some(end) = early_end(fault, openings, range) {
+        let (from, to) = range;
+        let (short, rest) = (fault.text_of((from, end)), fault.text_of((end, to)));
+        return Ok(Some(Mix {
+            sentence: sentence_on(alloc, fault, openings)?,
+            note: format!(in alloc;
+                "What stands behind its last value may belong to the `if` or not: write `({short}) {rest}` or `({short} {rest})`."
+            )?,
+            edit: None,
+        }));
+    }
     let text = format!(in alloc; "({inner})")?;
     Ok(Some(Mix {
         sentence: sentence_on(alloc, fault, openings)?,
-        note: "Add parentheses to say how the operators group.",
+        note: String::from_str(alloc, "Add parentheses to say how the operators group.")?,
         edit: edit_at(alloc, fault, bytes, text, &about_marks(alloc))?,
     }))
 }
@@ -349,7 +388,7 @@ fn unparted(
     }
     Ok(Some(Mix {
         sentence: sentence_on(alloc, fault, openings)?,
-        note: "Add parentheses to say how the operators group.",
+        note: String::from_str(alloc, "Add parentheses to say how the operators group.")?,
         edit: None,
     }))
 }

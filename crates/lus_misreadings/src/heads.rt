@@ -4,7 +4,7 @@ use crate::fault::Fault;
 use crate::words::is_any;
 
 /// The place in the head, from one on, at which a name is declared.
-fn declared_from(fault: &Fault<'_>, from: usize, name: &str) -> Option<usize> {
+pub fn declared_from(fault: &Fault<'_>, from: usize, name: &str) -> Option<usize> {
     for place in from..fault.tokens.len() {
         let text = fault.text(place);
         if is_any(text, &["let"]) {

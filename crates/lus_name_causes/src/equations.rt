@@ -7,7 +7,7 @@ use crate::unknown::{Purpose, Use, unknown};
 use lus_faults::{
     Edit, Role, Sought, bytes_at, expressions_in, extent_of, start_of, variable_named,
 };
-use lus_syntax::{Equation, Expr, Name, Node, Prefix, Tree};
+use lus_syntax::{Equation, Expr, Infix, Name, Node, Prefix, Tree};
 use std::alloc::{AllocError, Global};
 
 /// The name on the left of an equation that stands at a place.
@@ -69,17 +69,23 @@ fn is_value(expr: &Expr) -> bool {
     matches!(expr, Expr::Number(_, _) | Expr::Truth(_, _) | Expr::Name(_))
 }
 
-/// Whether an expression has the value of a variable at the instant before.
+/// Whether an expression has the value of a variable at the instant before, and gives it no first value.
 fn remembers(alloc: Global, expr: &Expr, text: &str) -> Result<bool, AllocError> {
+    let mut is_remembered = false;
     for inner in &expressions_in(alloc, expr)? {
-        if let Expr::Unary(Prefix::Pre, _, operand) = *inner
-            && let Expr::Name(name) = &**operand
-            && name.text.as_str() == text
-        {
-            return Ok(true);
+        match *inner {
+            Expr::Binary(Infix::Arrow, _, _) => return Ok(false),
+            Expr::Unary(Prefix::Pre, _, operand) => {
+                if let Expr::Name(name) = &**operand
+                    && name.text.as_str() == text
+                {
+                    is_remembered = true;
+                }
+            }
+            _ => {}
         }
     }
-    Ok(false)
+    Ok(is_remembered)
 }
 
 /// The change of a source that makes one equation of two that follow one another: a first value, and what follows it.
@@ -129,7 +135,7 @@ fn twice<'t>(
     }
     if is_value(&first.right) && remembers(alloc, &second.right, left.text.as_str())? {
         let note =
-            "An equation holds at every instant. The first value stands before `->`, as in `{} = 0 -> pre {} + 1;`.";
+            "Equations are not run in order, and each holds at every instant: one stands for both, in which the first value is before `->`.";
         let repair = Some(Repair::First(first, second));
         return Ok(Some(Said {
             note,
@@ -137,7 +143,10 @@ fn twice<'t>(
             ..said
         }));
     }
-    Ok(Some(said))
+    Ok(Some(Said {
+        repair: Some(Repair::Two(first, second)),
+        ..said
+    }))
 }
 
 /// What is said of an equation for an input, or of a second one for a variable.

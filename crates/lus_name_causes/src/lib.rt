@@ -8,6 +8,7 @@ mod clocks;
 mod declared;
 mod declaring;
 mod doubled;
+mod elsewhere;
 mod equations;
 mod given;
 mod looking;

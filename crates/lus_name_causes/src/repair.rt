@@ -5,10 +5,11 @@ use crate::calling::{arguments_edit, structure_edit};
 use crate::clocks::{note_on_constructor, variables_of};
 use crate::declared::push_variables;
 use crate::declaring::{declaration_of, declaring};
+use crate::elsewhere::{negating, note_on_two, with_counts};
 use crate::equations::joining;
 use crate::given::Given;
 use crate::respelling::{Slip, respelt, slips_beside};
-use lus_faults::{Edit, Finding};
+use lus_faults::{Edit, Finding, extent_of};
 use lus_syntax::{Equation, Fields, Name, Node, TypeDeclaration};
 use std::alloc::{AllocError, Global};
 
@@ -27,6 +28,12 @@ pub enum Repair<'t> {
     Structure(&'t Node, &'t [Fields]),
     /// The arguments of a call in the order of its inputs.
     Arguments(&'t Node),
+    /// Nothing, and what is wrong besides with the calls that the name stands in.
+    Counts(&'t Node),
+    /// `not` before a variable, in the place of a name.
+    Negation(&'t Name),
+    /// Nothing, and how two equations of one variable become one.
+    Two(&'t Equation, &'t Equation),
     /// A first value before `->` and what follows it in one equation, in the place of two.
     First(&'t Equation, &'t Equation),
 }
@@ -134,6 +141,14 @@ pub fn with_repair<'t>(
             Ok(finding.with_edit(structure_edit(given, node, name, groups)?))
         }
         Repair::Arguments(node) => Ok(finding.with_edit(arguments_edit(given, node, name)?)),
+        Repair::Counts(node) => with_counts(given, finding, node, name),
+        Repair::Negation(variable) => Ok(finding.with_edit(negating(given, name, variable)?)),
+        Repair::Two(first, second) => {
+            let first = extent_of(given.source, &first.right);
+            let second = extent_of(given.source, &second.right);
+            let note = Some(note_on_two(given, name, first, second)?);
+            Ok(Finding { note, ..finding })
+        }
         Repair::First(first, later) => Ok(finding.with_edit(joining(given, first, later)?)),
     }
 }

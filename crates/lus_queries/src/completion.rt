@@ -2,7 +2,7 @@
 
 use crate::outline::detail_of;
 use crate::places::{Spot, lines_of};
-use lus_json_faults::push_string;
+use lus_diagnostics::push_string;
 use lus_occurrences::{Declared, Names, names_of};
 use lus_syntax::{Symbol, Token, TokenKind, WORDS};
 use std::alloc::{AllocError, Global};

@@ -1,7 +1,7 @@
 //! What is shown of the name at a spot.
 
 use crate::places::{Spot, lines_of, push_span};
-use lus_json_faults::push_string;
+use lus_diagnostics::push_string;
 use lus_occurrences::{Names, names_of};
 use lus_syntax::Place;
 use std::alloc::{AllocError, Global};

@@ -19,6 +19,6 @@ pub use completion::completions;
 pub use hovering::{Fact, declared_at, hover};
 pub use occurrences::{definition, highlights, references};
 pub use outline::{folds, symbols};
-pub use places::{Lines, Spot, lines_of, spot_at};
+pub use places::{Lines, Spot, lines_of, push_range, push_span};
 pub use renames::{edits, renamable};
 pub use signature::signature_help;

@@ -1,8 +1,8 @@
 //! The outline of a text: what it declares, and which lines can be folded.
 
 use crate::places::{Lines, lines_of, push_range, push_span};
+use lus_diagnostics::push_string;
 use lus_faults::slice_of;
-use lus_json_faults::push_string;
 use lus_occurrences::{Declaration, Declared, Names, names_of};
 use lus_syntax::{Place, Span, Symbol, Token, TokenKind, Word};
 use std::alloc::{AllocError, Global};
@@ -123,7 +123,7 @@ fn push_symbol(
     let kind = symbol_kind(declaration.declared);
     let (start, end) = extent_of(names, declaration, span);
     write!(text, ",\"kind\":{kind},\"range\":")?;
-    push_range(text, lines, start, end)?;
+    push_range(text, lines, start.byte, end.byte)?;
     text.push_str(",\"selectionRange\":")?;
     push_span(text, lines, span)
 }

@@ -2,7 +2,7 @@
 
 use crate::outline::push_token;
 use crate::places::{Spot, lines_of};
-use lus_json_faults::push_string;
+use lus_diagnostics::push_string;
 use lus_occurrences::{Declared, Names, names_of};
 use lus_syntax::{Span, Symbol, Token, TokenKind, Word};
 use std::alloc::{AllocError, Global};

@@ -100,9 +100,9 @@ pub fn cycle_cause(
     } else {
         told.edit = broken(alloc, source, tree, node, &links)?;
         if links.iter().any(|link| link.need.is_argument) {
-            "Perhaps one of these uses is meant of the instant before. The outputs of a call depend on all its arguments, whatever the node does with them: a `pre` or `fby` outside the call breaks the cycle."
+            "Perhaps one of these uses is meant of the instant before: choose which one, and its first value. The outputs of a call depend on all its arguments, whatever the node does with them: a `pre` or `fby` outside the call breaks the cycle."
         } else {
-            "Perhaps one of these uses is meant of the instant before: a `pre` or `fby` before it breaks the cycle, as in `0 -> pre x`."
+            "Perhaps one of these uses is meant of the instant before: choose which one, and its first value. A `pre` or `fby` before it breaks the cycle, as in `0 -> pre x`."
         }
     };
     told.note = Some(String::from_str(alloc, note)?);

@@ -1,10 +1,11 @@
 //! Changes of the text that mend a fault of types, and the fields that there are.
 
 use crate::given::Given;
-use crate::kinds::part_named;
+use crate::kinds::{part_named, value_of_type};
+use crate::listing::counting;
 use crate::reaching::{Through, through_edit};
 use lus_faults::{Edit, bytes_at, nearest, slice_of};
-use lus_syntax::{Fields, Group, Name, Part, Span};
+use lus_syntax::{Expr, Fields, Group, Name, Part, Span};
 use std::alloc::{AllocError, Global};
 
 /// How many fields of a structure are told.
@@ -25,6 +26,10 @@ pub enum Repair<'t> {
     Exchange(Span, Span),
     /// A part of an expression in its place.
     Part(Span, Span),
+    /// The fields that a structure lacks, behind a byte.
+    Fields(usize, &'t [Fields], &'t [Part]),
+    /// Numbers in the place of the conditions among the operands of sums and products.
+    Numbers(&'t Expr),
     /// A comparison with zero behind a number, with parentheses where an operator stands right before it.
     Compared(Span, bool),
 }
@@ -64,7 +69,7 @@ fn field_edit(alloc: Global, name: &Name, groups: &[Fields]) -> Result<Option<Ed
 }
 
 /// Appends names, with commas between and an `and` before the last; of many the first, and how many others there are.
-fn push_names(text: &mut String, names: &[&str]) -> Result<(), AllocError> {
+pub fn push_names(text: &mut String, names: &[&str]) -> Result<(), AllocError> {
     let count = names.len();
     let told = names.get(..MOST_TOLD).unwrap_or(names);
     for (place, name) in told.iter().enumerate() {
@@ -118,6 +123,33 @@ fn branches_edit(alloc: Global, lacking: Lacking<'_>) -> Result<Edit, AllocError
     })
 }
 
+/// A value for each field that a structure lacks.
+fn fields_edit(
+    given: Given<'_>,
+    byte: usize,
+    groups: &[Fields],
+    parts: &[Part],
+) -> Result<Option<Edit>, AllocError> {
+    let mut text = String::new(given.alloc);
+    for group in groups {
+        for name in &group.names {
+            if part_named(parts, &name.text).is_some() {
+                continue;
+            }
+            let Some(value) = value_of_type(given.tree, &group.type_name) else {
+                return Ok(None);
+            };
+            let field = name.text.as_str();
+            write!(text, "; {field} = {value}")?;
+        }
+    }
+    Ok(Some(Edit {
+        byte,
+        length: 0,
+        text,
+    }))
+}
+
 /// The change of a source that exchanges two parts of it, the first of which stands before the second.
 fn exchanging(alloc: Global, source: &str, first: Span, second: Span) -> Result<Edit, AllocError> {
     let (one, other) = (slice_of(source, first), slice_of(source, second));
@@ -131,7 +163,7 @@ fn exchanging(alloc: Global, source: &str, first: Span, second: Span) -> Result<
 }
 
 /// The names of the variables of groups.
-fn variables_of(alloc: Global, groups: &[Group]) -> Result<Vec<&str>, AllocError> {
+pub fn variables_of(alloc: Global, groups: &[Group]) -> Result<Vec<&str>, AllocError> {
     let mut names = Vec::new(alloc);
     for group in groups {
         for name in &group.names {
@@ -172,6 +204,8 @@ pub fn edit_of(given: Given<'_>, repair: Repair<'_>) -> Result<Option<Edit>, All
             text: String::from_str(alloc, sign)?,
         })),
         Repair::Through(through) => through_edit(given, through),
+        Repair::Fields(byte, groups, parts) => fields_edit(given, byte, groups, parts),
+        Repair::Numbers(right) => counting(given, right),
         Repair::Part(whole, part) => Ok(Some(Edit {
             byte: whole.start.byte,
             length: whole.length,
