@@ -10,6 +10,11 @@ split_at_mut-own-requires g c = omega (arith, c.requires.long.row)
 pub copy_cells-requires : goal.copy_cells-requires
 copy_cells-requires g c = c.requires.long.cells ∙ sym c.requires.long.next_cells
 
+pub begin-requires : goal.begin-requires
+begin-requires g c =
+    let long = c.split_at_mut-own.ensures.front_len in
+    omega (arith, long, c.requires.outputs)
+
 pub follow_class-requires-clause-room : goal.follow_class-requires-clause-room
 follow_class-requires-clause-room g c =
     let long = c.requires.long in

@@ -7,3 +7,8 @@ abbrev pub invariant-loop-place : goal.invariant-loop-place
 invariant-loop-place g l =
     map g.T.Held.entry l.own
     ≡ take l.place (begun (length l.initial.own) (map entry_of l.inputs)) ++ drop l.place (map g.T.Held.entry l.initial.own)
+
+abbrev pub invariant-loop-empty : goal.invariant-loop-empty
+invariant-loop-empty g l =
+    map g.T.Held.entry l.own
+    ≡ take l.empty (begun (length l.fn.own) (map entry_of l.inputs)) ++ drop l.empty (map g.T.Held.entry l.fn.own)
