@@ -1,5 +1,6 @@
 -- Reasons of entries, of journals and of reports.
-use Rattle.std.proofs.Common.{◌≡◌, ◌∙◌, ◌++◌, ◌==◌, ℕ, Bool, false, true, true≢false, refl, ap, ap₂, sym, subst, List, [], ◌∷◌, length, codes, Option, Some, append_assoc, append-nil}
+use Rattle.std.proofs.Common.{arith, ◌≡◌, ◌∙◌, ◌++◌, ◌==◌, ℕ, Bool, false, true, true≢false, refl, ap, ap₂, sym, subst, List, [], ◌∷◌, length, codes, Option, Some, append_assoc, append-nil}
+use Rattle.std.proofs.lemmas.Bool.{eqb-true}
 use Rattle.std.specs.Prelude.{is_none, string_bytes}
 use Rattle.std.specs.List.{AllZip, concat}
 use Rattle.lus_values.specs.Names.{Names, Text}
@@ -107,4 +108,4 @@ shown_some (x ∷ found) b is some = refl
 -- and what is says so
 pub shown_none : (found text : Text) (b : Bool) → b ≡ (length found == 0) → b ≡ true → text ≡ found ++ codes "no journal\n" → text ≡ shown found
 shown_none [] text b is empty grown = grown
-shown_none (x ∷ found) text b is empty grown = absurd (true≢false (sym empty ∙ is))
+shown_none (x ∷ found) text b is empty grown = absurd (omega (arith, eqb-true (length (x ∷ found)) 0 (sym is ∙ empty)))

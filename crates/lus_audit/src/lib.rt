@@ -1,5 +1,5 @@
-//! `lus_audit PROGRAM JOURNAL` says whether the journals that `lus` printed are lawful, and else what is the first wrong line; with `--many`
-//! whether a log of many instances is.
+//! `lus_audit PROGRAM JOURNAL` says whether the journals that `lus` printed are lawful, and else what is the first wrong line; with
+//! `--many` whether a log of many instances is.
 #![tactic(auto)]
 
 mod log_reasons;

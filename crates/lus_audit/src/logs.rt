@@ -183,7 +183,8 @@ fn perform<D: Folder, O: Sink>(
 }
 
 /// Audits the log that the words name among the files of a folder, says why its requests were refused where that is asked, and gives the
-/// status of the process: 0 where it is lawful, 2 where a line isn't the right one, else that of the fault. `keys` are of the hash function of instances' names.
+/// status of the process: 0 where it is lawful, 2 where a line isn't the right one, else that of the fault. `keys` are of the hash function
+/// of instances' names.
 pub fn command_many<D: Folder, O: Sink, F: Sink>(
     alloc: Global,
     folder: &D,

@@ -1,5 +1,5 @@
 -- An instance is named, or is named new, without entries.
-use Rattle.std.proofs.Common.{rules, [], string_bytes}
+use Rattle.std.proofs.Common.{◌≡◌, string_bytes}
 use Rattle.std.proofs.lemmas.Map.Text.{hash_map_updates_text}
 use Rattle.std.proofs.lemmas.Result.{IfOk-at_ok}
 use Rattle.indexmap.specs.IndexMap.{get_by_text}

@@ -33,8 +33,8 @@ returns-then-first-clause-fault g c =
     (λ e memory. subst (LogIsLost (program_of (arc_value c.args.program.now)) (g.D.Folder.known c.args.folder.now c.args.log.now)) (sym memory) tt)
     c.with_reasons.ensures.memory
 
-pub returns-then-second-clause-audited : goal.returns-then-second-clause-audited
-returns-then-second-clause-audited g c =
+pub returns-then-lines-second-clause-audited : goal.returns-then-lines-second-clause-audited
+returns-then-lines-second-clause-audited g c =
     let p = program_of (arc_value c.args.program.now) in
     let f = c.args.node.0 in
     let report = c.in_ok-report.report in
@@ -43,17 +43,17 @@ returns-then-second-clause-audited g c =
     let second = c.in_ok-again.second in
     let named = get_by_text c.with_hasher-none.result in
     let none = none_named c.with_hasher-none.result c.with_hasher-none.ensures.empty in
-    IfOk-weaker c.with_reasons-then-second.result _ _
+    IfOk-weaker c.with_reasons-then-lines-second.result _ _
     (λ r made.
     file_both (g.D.Folder.known c.args.folder.now c.args.log.now) _ _ _
     (λ bytes found here. reported_with p f (ExplainsFrom p f (get_by_text first.unfollowed) second) again.is_lawful r.is_lawful again.text.items
     (string_bytes second.text) r.text.items bytes here
     (λ lines seen. (seen (named_follow p f named first report.is_lawful report.text.items bytes none found)).tells c.if-second.true) made.0 made.1)
     c.in_ok-report.ensures.audited c.in_ok-again.ensures.audited)
-    c.with_reasons-then-second.ensures.ok
+    c.with_reasons-then-lines-second.ensures.ok
 
-pub returns-then-second-clause-fault : goal.returns-then-second-clause-fault
-returns-then-second-clause-fault g c =
-    IfErr-weaker c.with_reasons-then-second.result _ _
+pub returns-then-lines-second-clause-fault : goal.returns-then-lines-second-clause-fault
+returns-then-lines-second-clause-fault g c =
+    IfErr-weaker c.with_reasons-then-lines-second.result _ _
     (λ e memory. subst (LogIsLost (program_of (arc_value c.args.program.now)) (g.D.Folder.known c.args.folder.now c.args.log.now)) (sym memory) tt)
-    c.with_reasons-then-second.ensures.memory
+    c.with_reasons-then-lines-second.ensures.memory

@@ -1,5 +1,5 @@
 -- An entry that was accepted has no reason, and the instance of one that was refused is named.
-use Rattle.std.proofs.Common.{◌∙◌, ap, refl, sym, subst}
+use Rattle.std.proofs.Common.{◌∙◌, false, ap, refl, sym, subst}
 use Rattle.std.proofs.lemmas.Bool.{true≢false}
 use Rattle.std.proofs.lemmas.Result.{on_ok_weaker}
 use Rattle.lus_cli.specs.CodeSpecs.Codes.{program_of}
