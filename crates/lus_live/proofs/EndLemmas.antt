@@ -1,17 +1,17 @@
 -- How a live run ends, by how its parts do.
-use Rattle.std.proofs.Common.{◌≡◌, ◌∙◌, ℕ, Bool, true, false, inl, inr, ap, refl, subst, sym, List, [], Option, Some, None, Result, Ok, Err}
+use Rattle.std.proofs.Common.{◌≡◌, ◌∙◌, ℕ, Bool, true, false, inl, inr, refl, subst, sym, List, [], Option, Some, None}
 use Rattle.lus_values.specs.Names.{Names}
 use Rattle.lus_requests.specs.declared.request.Entry.{Entry}
 use Rattle.lus_program.specs.Programs.{Program}
 use Rattle.lus_bursts.specs.Syncs.{Safety}
 use Rattle.lus_devices.specs.Devices.{Bytes}
-use Rattle.lus_devices.specs.Folders.{Holds, Known, WithFile}
+use Rattle.lus_devices.specs.Folders.{Holds, Known}
 use Rattle.lus_live_instance.specs.MachineSpecs.Constructors.{names_of}
 use Rattle.lus_sessions.specs.Recoveries.{HasRecovered}
 use Rattle.lus_sessions.specs.declared.error.RecoveryError.{RecoveryError}
 use Rattle.lus_sessions.specs.declared.error.RecoveryError.TheVariants as recoveries
 use Rattle.lus_sessions.specs.declared.recovering.Start.{Start}
-use Rattle.lus_cli.specs.Changes.{Change, IsUntouched, change}
+use Rattle.lus_cli.specs.Changes.{Change, change}
 use Rattle.lus_cli.specs.CommandLine.{Text}
 use Rattle.lus_cli.specs.Faults.{IsQuiet}
 use Rattle.lus_cli.specs.MachineSpecs.Formals.{node_named}
@@ -20,7 +20,7 @@ use Rattle.lus_cli.specs.declared.fault.Fault.{Fault}
 use Rattle.lus_cli.specs.declared.fault.Fault.TheVariants as faults
 use Rattle.lus_cli.proofs.ProgramLemmas.{file_then}
 use Rattle.lus_live.specs.CommandLine.{Asked, writes_file}
-use Rattle.lus_live.specs.Ends.{AsksBehind, Begins, HasPlayed, IsBeginFault, IsOpened, IsRecovered, IsRecoveryFault, LiveFails, LogStays, Ran, StaysIn, TaskEnds, Tells, parties_of, recovery_fault}
+use Rattle.lus_live.specs.Ends.{AsksBehind, IsBeginFault, IsOpened, IsRecovered, IsRecoveryFault, LiveFails, LogStays, Ran, StaysIn, Tells, parties_of, recovery_fault}
 use Rattle.lus_live.specs.declared.words.Form.{Form}
 use Rattle.lus_live.specs.declared.words.Form.TheVariants.{Journal, Json, Csv}
 

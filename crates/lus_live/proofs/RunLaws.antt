@@ -1,5 +1,5 @@
 -- What was driven on an instance that is live is its lawful history.
-use Rattle.std.proofs.Common.{◌≡◌, ◌∙◌, ◌+◌, ◌++◌, ℕ, Bool, inl, inr, ap, refl, sym, subst, List, [], ◌∷◌, Option, Some, None, Result, Ok, Err, IfOk, OnErr}
+use Rattle.std.proofs.Common.{◌≡◌, ◌∙◌, ℕ, inr, ap, refl, sym, subst, List, [], ◌∷◌, Option, Some, None, Ok, Err, IfOk, OnErr}
 use Rattle.lus_values.specs.Names.{Names, Text}
 use Rattle.lus_program.specs.Programs.{Program, Variable, node_at}
 use Rattle.lus_requests.specs.declared.request.Request.{Request}
@@ -21,7 +21,7 @@ use Rattle.lus_sessions.specs.declared.recovering.Start.{Start}
 use Rattle.lus_live.specs.Ends.{Ran, Tells}
 use Rattle.lus_live.specs.Runs.{HasRun, HasRunSome, Unasked, json_says, silence}
 use Rattle.lus_live.specs.declared.words.Form.{Form}
-use Rattle.lus_live.specs.declared.words.Form.TheVariants.{Journal, Json, Csv}
+use Rattle.lus_live.specs.declared.words.Form.TheVariants.{Journal, Json}
 
 -- the journal of a caller, as the code has its names
 pub lines_are : (ns known : Names) (name : Text) (cs : List Text) (who : Parties) → ns ≡ known → name ≡ who.node → cs ≡ who.caller ∷ []

@@ -1,5 +1,5 @@
 -- Tables that were told under a head, and what is written where there is none.
-use Rattle.std.proofs.Common.{◌≡◌, ◌∙◌, ℕ, inl, inr, refl, sym, subst, List, Option, Some, None, Result, Ok, Err, IfOk, OnErr}
+use Rattle.std.proofs.Common.{◌≡◌, ℕ, inl, inr, refl, sym, subst, List, Option, Some, None, Ok, Err, IfOk, OnErr}
 use Rattle.lus_values.specs.Names.{Names, Text}
 use Rattle.lus_program.specs.Programs.{Program, Variable, node_at}
 use Rattle.lus_requests.specs.declared.request.Entry.{Entry}
@@ -17,7 +17,7 @@ use Rattle.lus_records.specs.Records.{step_in}
 use Rattle.lus_sessions.specs.Sessions.{HasDriven, HasDrivenSome, Parties, Scribe, journal_lines, no_journal}
 use Rattle.lus_sessions.specs.declared.recovering.Start.{Start}
 use Rattle.lus_live.specs.Ends.{Ran, Tells}
-use Rattle.lus_live.specs.Runs.{HasRun, HasRunSome, Unasked}
+use Rattle.lus_live.specs.Runs.{Unasked}
 use Rattle.lus_live.specs.Tables.{HasHead, HasToldTable, HasToldTableSome, IsStepUnder, head_says, headless, record_says}
 use Rattle.lus_live.specs.declared.words.Form.{Form}
 use Rattle.lus_live.specs.declared.words.Form.TheVariants.{Csv}

@@ -146,8 +146,8 @@ pub(crate) fn begin<D: Folder, L: Log, F: Sink>(
     ensures live { IfOk result (λ b. IsLive (program_of (arc_value program.now)) node.0 b.instance.reactor) }
     ensures begins { IfOk result (λ b. Begins (D.known folder.now) (program_of (arc_value program.now)) task.entry.node.now
         (option_map (λ f. f.now) task.entry.journal) b.start b.instance.reactor.history) }
-    ensures opened { OnOk result (IsOpened (writes_file task.entry.form (option_map (λ f. f.now) task.entry.journal)) (Opens L L.opens log.old)
-        (option_map (λ f. f.now) task.entry.journal)) }
+    ensures opened { OnOk result (IsOpened (writes_file task.entry.form (option_map (λ f. f.now) task.entry.journal))
+        (Opens L L.opens log.old) (option_map (λ f. f.now) task.entry.journal)) }
     ensures written { L.written log.new ≡ L.written log.old }
     ensures failures { L.failures log.new ≡ L.failures log.old }
     ensures fault { IfErr result (λ f. IsBeginFault (option_map (λ f. f.now) task.entry.journal) f) }

@@ -1,6 +1,6 @@
-//! `lus_live PROGRAM NODE` makes the calls that its input has, a line each, on an instance of the node, and writes its journal as it
-//! grows, or with `--json` each reply as an object of JSON, or with `--csv` the outputs of steps as records, once the call is in the journal
-//! that is named, and with `--sync` once that was synced with it.
+//! `lus_live PROGRAM NODE` makes the calls that its input has, a line each, on an instance of the node, and writes its journal as it grows.
+//! With `--json` it writes each reply as an object of JSON instead, or with `--csv` the outputs of steps as records, once the call is in
+//! the journal that is named, and with `--sync` once that was synced with it.
 #![tactic(auto)]
 
 mod beginning;

@@ -74,8 +74,8 @@ fn perform<D: Folder, S: Source, L: Log, O: Syncs, F: Sink>(
 ) -> Result<Result<Score, PlayError>, Fault>
     ensures ends { AskedEnds (TaskEnds (ReadFails D.File D.File.left D.File.failures) (D.known folder.now) (Opens L L.opens log.old)
         (λ s. WasKept s L L.syncs L.written) (S.left input.old) (S.left input.new)
-        (change (L.written log.old) (L.written log.new) (L.failures log.old) (L.failures log.new))) (asked (map string_bytes words.now)) result
-        (change (O.written output.old) (O.written output.new) (O.failures output.old) (O.failures output.new)) }
+        (change (L.written log.old) (L.written log.new) (L.failures log.old) (L.failures log.new))) (asked (map string_bytes words.now))
+        result (change (O.written output.old) (O.written output.new) (O.failures output.old) (O.failures output.new)) }
     ensures stays { LogStays (asked (map string_bytes words.now))
         (change (L.written log.old) (L.written log.new) (L.failures log.old) (L.failures log.new)) }
     ensures quiet { IfErr result (λ f. IsQuiet f
@@ -97,12 +97,12 @@ fn fault_of(error: PlayError) -> Fault
 }
 
 /// Makes the call of each line of the input on the node that the words name, and writes the journal: each entry before the next line
-/// is read. Its entries are of the caller that is named, or of `user`. With a journal among the words that is read and replayed first,
-/// and written on. With `--json` each reply is written as an object of JSON, and with `--csv` the outputs are written as records, where the
-/// first line names columns and each other line is the record of a step; in place of a journal's lines, and a journal among the words is
-/// itself gone on in by `log`: a reply is begun only once the line of its entry is whole there, and with `--sync` once the log was synced with
-/// it, once for all calls whose lines are `waiting`, that is, were read ahead. Gives the status of the process: 0 where all lines were read and
-/// each was a call, 2 where one was none, which `faults` is given with its number, else that of the fault.
+/// is read. Its entries are of the caller that is named, or of `user`. A journal among the words is read and replayed first, and written
+/// on. In place of a journal's lines `--json` has each reply written as an object of JSON, and `--csv` the outputs as records, where the
+/// first line names columns and each other line is the record of a step. Then a journal among the words is itself gone on in by `log`: a
+/// reply is begun only once the line of its entry is whole there, and with `--sync` once the log was synced with it, once for all calls
+/// whose lines are `waiting`, that is, were read ahead. Gives the status of the process: 0 where all lines were read and each was a call, 2
+/// where one was none, which `faults` is given with its number, else that of the fault.
 pub fn command<D: Folder, S: Source, L: Log, O: Syncs, F: Sink>(
     alloc: Global,
     folder: &D,

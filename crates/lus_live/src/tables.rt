@@ -66,10 +66,10 @@ fn write_outputs_head<O: Sink>(
     write_head(alloc, source, outputs, output)
 }
 
-/// Reads the first line as a head, names of columns of the node's inputs and outputs, and writes the names of the columns of its outputs. Then
-/// makes the step of each record below it, passing over cells below outputs, and tells its outputs as a record, once its entry is in the log. A
-/// line that is no step enters nothing and has no record; `faults` is given its number and what is wrong. Where the first line is no
-/// head, or there is none, it counts as refused, nothing more is read and nothing is written.
+/// Reads the first line as a head, names of columns of the node's inputs and outputs, and writes the names of the columns of its outputs.
+/// Then makes the step of each record below it, passing over cells below outputs, and tells its outputs as a record, once its entry is in
+/// the log. A line that is no step enters nothing and has no record; `faults` is given its number and what is wrong. Where the first line
+/// is no head, or there is none, it counts as refused, nothing more is read and nothing is written.
 pub(crate) fn tell_table<J: Writes, S: Source, L: Syncs, O: Sink, F: Sink>(
     alloc: Global,
     program: &Arc<Program>,

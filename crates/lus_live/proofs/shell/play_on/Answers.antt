@@ -52,6 +52,10 @@ returns-in_err-begun-clause-ends g c =
     subst (λ r. TaskEnds (ReadFails g.row.D-File.Denot g.D.File.Source.left g.D.File.Source.failures) (g.D.Folder.known c.args.folder.now)
     (Opens g.row.L.Denot g.L.Log.opens c.args.log.now) (λ s. WasKept s g.row.L.Denot g.L.Syncs.syncs g.L.Sink.written) (g.S.Source.left c.args.input.now)
     (g.S.Source.left c.args.input.now) (change (g.L.Sink.written c.args.log.now) (g.L.Sink.written c.begin.new.log) (g.L.Sink.failures c.args.log.now) (g.L.Sink.failures c.begin.new.log)) (task_seen c.args.task) r
-    (change (g.O.Sink.written c.args.output.now) (g.O.Sink.written c.args.output.now) (g.O.Sink.failures c.args.output.now) (g.O.Sink.failures c.args.output.now))) (sym e.1)
-    (begin_fails (ReadFails g.row.D-File.Denot g.D.File.Source.left g.D.File.Source.failures) (g.D.Folder.known c.args.folder.now c.args.task.program.now)
-    c.args.task.node.now (task_seen c.args.task).file e.0 p c.in-Some.node.0 accepted named fault, refl, (c.begin.ensures.written, c.begin.ensures.failures), (refl, refl))
+    (change (g.O.Sink.written c.args.output.now) (g.O.Sink.written c.args.output.now) (g.O.Sink.failures c.args.output.now) (g.O.Sink.failures c.args.output.now))) (sym e.1) (
+      begin_fails (ReadFails g.row.D-File.Denot g.D.File.Source.left g.D.File.Source.failures) (g.D.Folder.known c.args.folder.now c.args.task.program.now)
+          c.args.task.node.now (task_seen c.args.task).file e.0 p c.in-Some.node.0 accepted named fault,
+      refl,
+      (c.begin.ensures.written, c.begin.ensures.failures),
+      (refl, refl),
+    )

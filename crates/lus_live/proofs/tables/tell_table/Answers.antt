@@ -9,7 +9,7 @@ use Rattle.lus_live_instance.specs.MachineSpecs.CodeSpecs.Codes.{program_of}
 use Rattle.lus_live_instance.specs.MachineSpecs.Constructors.{names_of}
 use Rattle.lus_live_instance.specs.MachineSpecs.Formals.{inputs_of, outputs_of}
 use Rattle.lus_live.specs.Tables.{HasHead}
-use Rattle.lus_live.proofs.TableLaws.{head_begun, headless_told, table_told, table_told_some}
+use Rattle.lus_live.proofs.TableLaws.{head_begun, table_told, table_told_some}
 use Rattle.lus_live.proofs.tables.tell_table.Goals as goal
 
 pub returns-in_err-write_outputs_head-clause-some : goal.returns-in_err-write_outputs_head-clause-some
