@@ -9,6 +9,7 @@ lus_status lus_raw_nodes(H *, uint32_t *);
 lus_status lus_raw_node(H *, const uint8_t *, size_t, uint32_t *);
 lus_status lus_raw_node_name(H *, uint32_t, uint64_t *, uint8_t *, size_t);
 lus_status lus_raw_formals(H *, uint32_t, uint32_t *, uint32_t *);
+lus_status lus_raw_cost(H *, uint32_t, lus_bounds *);
 lus_status lus_raw_input(H *, uint32_t, uint32_t, lus_formal *, uint8_t *, size_t);
 lus_status lus_raw_output(H *, uint32_t, uint32_t, lus_formal *, uint8_t *, size_t);
 lus_status lus_raw_field(H *, uint32_t, uint32_t, lus_formal *, uint8_t *, size_t);
@@ -63,6 +64,7 @@ lus_status lus_node_name(lus_program *p, uint32_t node, uint64_t *bytes, char *n
     return lus_raw_node_name(&p->own, node, bytes, BYTES(name, n), n);
 }
 lus_status lus_formals(lus_program *p, uint32_t node, uint32_t *i, uint32_t *o) { NEED(p && i && o && i != o); return lus_raw_formals(&p->own, node, i, o); }
+lus_status lus_cost(lus_program *p, uint32_t node, lus_bounds *bounds) { NEED(p && bounds); return lus_raw_cost(&p->own, node, bounds); }
 lus_status lus_input(lus_program *p, uint32_t node, uint32_t k, lus_formal *f, char *name, size_t n) {
     NEED(p && f && (name || !n));
     return lus_raw_input(&p->own, node, k, f, BYTES(name, n), n);

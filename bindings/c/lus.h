@@ -64,6 +64,10 @@ typedef struct { uint32_t kind, type; int64_t number; } lus_value;
  * many bytes its name has. */
 typedef struct { uint32_t kind, type, clocked, unused; uint64_t bytes; } lus_formal;
 
+/* What a node costs, before anything runs: the orders that a step obeys at most, the places of the row on which steps are made, and
+ * the bytes of an instance and of a saved state. Each is exact, or UINT64_MAX where it is that or more. */
+typedef struct { uint64_t orders, row, instance_bytes, saved_bytes; } lus_bounds;
+
 /* Requests. */
 enum { LUS_STEP = 1, LUS_RESET = 2, LUS_SAVE = 3, LUS_RESTORE = 4, LUS_BURST = 5 };
 /* Replies, and why a request is refused. */
@@ -99,6 +103,7 @@ lus_status lus_nodes(lus_program *, uint32_t *count);
 lus_status lus_node(lus_program *, const char *name, size_t bytes, uint32_t *node);
 lus_status lus_node_name(lus_program *, uint32_t node, uint64_t *bytes, char *name, size_t room);
 lus_status lus_formals(lus_program *, uint32_t node, uint32_t *inputs, uint32_t *outputs);
+lus_status lus_cost(lus_program *, uint32_t node, lus_bounds *);
 lus_status lus_input(lus_program *, uint32_t node, uint32_t place, lus_formal *, char *name, size_t room);
 lus_status lus_output(lus_program *, uint32_t node, uint32_t place, lus_formal *, char *name, size_t room);
 lus_status lus_field(lus_program *, uint32_t structure, uint32_t place, lus_formal *, char *name, size_t room);

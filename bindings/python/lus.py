@@ -19,7 +19,7 @@ import os
 import threading
 import time
 from collections.abc import Callable, Iterable, Iterator, Sequence
-from typing import Any, Dict, List, Optional, TypeVar, Union, overload
+from typing import Any, Dict, List, NamedTuple, Optional, TypeVar, Union, overload
 
 VERSION = 1  # that of lus.h
 Value = Union[None, bool, int, str, Dict[str, Any]]
@@ -51,6 +51,10 @@ class _Refusal(c.Structure):
 
 class _Formal(c.Structure):
     _fields_ = [(name, c.c_uint32) for name in ("kind", "type", "clocked", "unused")] + [("bytes", c.c_uint64)]
+
+
+class _Bounds(c.Structure):
+    _fields_ = [(name, c.c_uint64) for name in ("orders", "row", "instance_bytes", "saved_bytes")]
 
 
 class _Answer(c.Structure):
@@ -118,6 +122,7 @@ _CALLS = {
     "node": [_H, _S, _N, _U32],
     "node_name": [_H, c.c_uint32, _U64, _S, _N],
     "formals": [_H, c.c_uint32, _U32, _U32],
+    "cost": [_H, c.c_uint32, c.POINTER(_Bounds)],
     "input": [_H, c.c_uint32, c.c_uint32, c.POINTER(_Formal), _S, _N],
     "output": [_H, c.c_uint32, c.c_uint32, c.POINTER(_Formal), _S, _N],
     "field": [_H, c.c_uint32, c.c_uint32, c.POINTER(_Formal), _S, _N],
@@ -292,8 +297,18 @@ class _Types:
         return [{name: self.read(left, kind) for name, kind in zip(formals.names, formals.kinds)} for _ in range(count)]
 
 
+class Cost(NamedTuple):
+    """What a node costs, before anything runs: the orders that a step obeys at most, the places of the row on which steps are made, and
+    the bytes of an instance and of a saved state. Each is exact, or 2 ** 64 - 1 where it is that or more."""
+
+    orders: int
+    row: int
+    instance_bytes: int
+    saved_bytes: int
+
+
 class Node:
-    """A node of a program: its name, and the names of its inputs and outputs."""
+    """A node of a program: its name, the names of its inputs and outputs, and what it costs."""
 
     def __init__(self, program: Program, number: int) -> None:
         self._program, self.number = program, number
@@ -304,6 +319,9 @@ class Node:
             name = c.create_string_buffer(count.value)
             _must(_lus.lus_node_name(handle, number, count, name, count.value))
         self.name = name.raw[: count.value].decode()
+        bounds = _Bounds()
+        _must(_lus.lus_cost(handle, number, bounds))
+        self.cost = Cost(bounds.orders, bounds.row, bounds.instance_bytes, bounds.saved_bytes)
         inputs, outputs = c.c_uint32(), c.c_uint32()
         _must(_lus.lus_formals(handle, number, inputs, outputs))
         self._inputs = _Formals(handle, _lus.lus_input, number, inputs.value)

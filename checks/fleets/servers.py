@@ -86,12 +86,12 @@ class NatsServer:
 
 
 class PostgresServer:
-    """A server with a database for each trial."""
+    """A server with a database for each trial. Where it isn't to sync, what it confirmed is lost with the machine's power, but by no kill."""
 
     mqtt = 0
 
-    def __init__(self, folder: Path, partitions: dict[str, int]) -> None:
-        self.folder, self.port = folder, free_port()
+    def __init__(self, folder: Path, partitions: dict[str, int], syncs: bool = False) -> None:
+        self.folder, self.port, self.fsync = folder, free_port(), "on" if syncs else "off"
         folder.mkdir()
         if os.getuid() == 0:
             shutil.chown(folder, "postgres")
@@ -105,7 +105,7 @@ class PostgresServer:
 
     def start(self) -> None:
         self.run("pg_ctl", "-D", self.folder / "data", "-l", self.folder / "log", "-w", "-o",
-                 f"-p {self.port} -c listen_addresses=127.0.0.1 -c unix_socket_directories={self.folder} -c max_connections=400 -c fsync=off", "-t", "120", "start")
+                 f"-p {self.port} -c listen_addresses=127.0.0.1 -c unix_socket_directories={self.folder} -c max_connections=400 -c fsync={self.fsync}", "-t", "120", "start")
 
     def stop(self, number: int) -> None:
         """(A server of PostgreSQL takes SIGINT as the order to end now. A kill is one of all its processes.)"""

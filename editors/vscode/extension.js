@@ -24,7 +24,10 @@ function workspaceEdit(of) {
 function diagnostic(of) {
   const found = new vscode.Diagnostic(range(of.range), of.message, (of.severity || 1) - 1);
   found.source = of.source;
-  found.code = of.codeDescription ? { value: of.code, target: vscode.Uri.parse(of.codeDescription.href) } : of.code;
+  // The section of a document that is named by its path in the package is no link here.
+  const href = of.codeDescription && of.codeDescription.href;
+  found.code = href && /^[a-z]+:/.test(href) ? { value: of.code, target: vscode.Uri.parse(href) } : of.code;
+  found.tags = of.tags;
   found.relatedInformation = list(of.relatedInformation, (at) => new vscode.DiagnosticRelatedInformation(location(at.location), at.message));
   return found;
 }
@@ -38,9 +41,17 @@ function symbol(of) {
 function completion(of) {
   const item = new vscode.CompletionItem(of.label, of.kind === undefined ? undefined : of.kind - 1);
   item.detail = of.detail;
-  item.insertText = of.insertText;
+  item.insertText = of.insertTextFormat === 2 ? new vscode.SnippetString(of.insertText) : of.insertText;
+  item.sortText = of.sortText;
   if (of.documentation) item.documentation = text(of.documentation);
   return item;
+}
+
+function hint(of) {
+  const made = new vscode.InlayHint(position(of.position), of.label, of.kind);
+  made.paddingLeft = of.paddingLeft;
+  made.paddingRight = of.paddingRight;
+  return made;
 }
 
 function signatures(of) {
@@ -111,7 +122,10 @@ function providers(ask, legend) {
         const answer = await ask("textDocument/completion", at(document, place));
         return list(answer && (answer.items || answer), completion);
       },
-    }, "."),
+    }, ".", "(", "{"),
+    languages.registerInlayHintsProvider(LANGUAGE, {
+      provideInlayHints: async (document, of) => list(await ask("textDocument/inlayHint", { ...whole(document), range: of }), hint),
+    }),
     languages.registerSignatureHelpProvider(LANGUAGE, {
       provideSignatureHelp: async (document, place) => {
         const answer = await ask("textDocument/signatureHelp", at(document, place));
@@ -161,7 +175,8 @@ async function activate(context) {
   connection = new Connection(command, ["--stdio"], told, (reason) => {
     if (reason && !isEnding) vscode.window.showErrorMessage(`lus: ${reason}`);
   });
-  const answer = await connection.request("initialize", { processId: process.pid, rootUri: null, capabilities: {} }).catch(() => null);
+  const capabilities = { textDocument: { completion: { completionItem: { snippetSupport: true } } } };
+  const answer = await connection.request("initialize", { processId: process.pid, rootUri: null, capabilities }).catch(() => null);
   if (!answer) return;
   connection.notify("initialized", {});
   const tokens = answer.capabilities.semanticTokensProvider;

@@ -48,6 +48,7 @@ static void wrong_uses(lus_program *program, lus_seat *one) {
     lus_refusal refusal;
     lus_answer answer;
     lus_formal formal;
+    lus_bounds bounds;
     lus_entry entry;
     lus_value passed = {LUS_BOOL, 0, 1}, in, out;
     char names[16];
@@ -73,6 +74,7 @@ static void wrong_uses(lus_program *program, lus_seat *one) {
     /* names and numbers */
     GIVES(lus_node(program, "nothing", 7, &number), LUS_NO_SUCH);
     GIVES(lus_formals(program, 7, &number, &refusal.line), LUS_NO_SUCH);
+    GIVES(lus_cost(program, 7, &bounds), LUS_NO_SUCH);
     GIVES(lus_node_name(program, 7, &bytes, names, sizeof names), LUS_NO_SUCH);
     GIVES(lus_input(program, 0, 1, &formal, 0, 0), LUS_NO_SUCH);
     GIVES(lus_field(program, 0, 2, &formal, 0, 0), LUS_NO_SUCH);
@@ -86,6 +88,7 @@ static void wrong_uses(lus_program *program, lus_seat *one) {
     GIVES(lus_try_step(AS(lus_seat, &other), &passed, 1, &answer, &out, 1), LUS_HANDLE);
     GIVES(lus_try_step(0, &passed, 1, &answer, &out, 1), LUS_HANDLE);
     GIVES(lus_nodes(AS(lus_program, one), &number), LUS_HANDLE);
+    GIVES(lus_cost(AS(lus_program, one), 0, &bounds), LUS_HANDLE);
     GIVES(lus_entries(AS(lus_journal, one), &count), LUS_HANDLE);
     GIVES(lus_release(one), LUS_HANDLE);
     GIVES(lus_hold(AS(lus_seat, program), &count), LUS_HANDLE);
@@ -172,7 +175,10 @@ static void structures(lus_program *program) {
     char line[64];
     uint64_t bytes;
     uint32_t node;
+    lus_bounds bounds;
     MUST(lus_node(program, "swap", 4, &node));
+    MUST(lus_cost(program, node, &bounds));
+    IS(bounds.orders > 0 && bounds.row >= 4 && bounds.instance_bytes % 40 == 0 && bounds.saved_bytes <= bounds.instance_bytes);
     MUST(lus_open(program, node, &seat, 1));
     MUST(lus_try_step(&seat, in, 4, &answer, out, 4));
     IS(answer.count == 4 && out[0].kind == LUS_STRUCT && out[0].number == 2 && out[1].number == 42 && out[2].number == 1);

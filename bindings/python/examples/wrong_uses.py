@@ -79,6 +79,8 @@ raises(lus.HANDLE, two[0].step, passed=True)
 assert one.count() == 4 and one.step(passed=True) == {"count": 2}
 print(uses, "wrong uses")
 
+cost = program.nodes["swap"].cost
+assert cost.orders > 0 and cost.row >= 4 and cost.instance_bytes % 40 == 0 and cost.saved_bytes <= cost.instance_bytes
 swap, = program.open("swap")
 print(swap.step(p={"a": 41, "b": False}, l="Red"))
 counter, = program.open("counter")

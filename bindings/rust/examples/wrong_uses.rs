@@ -74,6 +74,7 @@ fn main() -> Result<(), Error> {
     uses.gives(program.node("nothing"), Error::NoSuch);
     uses.gives(program.name(Node(7)), Error::NoSuch);
     uses.gives(program.inputs(Node(7)), Error::NoSuch);
+    uses.gives(program.cost(Node(7)), Error::NoSuch);
     uses.gives(program.constructor(0, 0), Error::NoSuch);
     uses.gives(program.row(Node(0), &[("gone", true.into())]), Error::NoSuch);
     uses.gives(program.open(Node(7), 1), Error::NoSuch);
@@ -96,6 +97,8 @@ fn main() -> Result<(), Error> {
     names(&program, &mut uses)?;
     println!("{} wrong uses", uses.0);
     let swap = program.node("swap")?;
+    let cost = program.cost(swap)?;
+    assert!(cost.orders > 0 && cost.row >= 4 && cost.instance_bytes % 40 == 0 && cost.saved_bytes <= cost.instance_bytes);
     let Kind::Enum(light) = program.inputs(swap)?[1].kind else { panic!("no enumeration") };
     let pair = Value::Struct(vec![Value::Int(41), Value::Bool(false)]);
     println!("{:?}", program.open(swap, 1)?[0].step(&[Some(pair), Some(Value::Enum(light, 0))])?);

@@ -20,6 +20,6 @@ mod value;
 pub use error::{Error, Refusal};
 pub use journal::{Entry, Journal};
 pub use live::Live;
-pub use program::{Formal, Kind, Node, Program};
+pub use program::{Cost, Formal, Kind, Node, Program};
 pub use seat::{HeldSeat, Seat, close};
 pub use value::{Reply, Request, Row, Value, Why};

@@ -28,6 +28,18 @@ pub struct Formal {
 #[derive(Clone, Copy, Debug, PartialEq, Eq)]
 pub struct Node(pub u32);
 
+/// What a node costs, before anything runs. Each number is exact, or `u64::MAX` where it is that or more.
+#[derive(Clone, Copy, Debug, PartialEq, Eq)]
+#[non_exhaustive]
+pub struct Cost {
+    /// The orders that a step obeys at most, with those of all calls in it.
+    pub orders: u64,
+    /// The places of the row on which steps are made.
+    pub row: u64,
+    pub instance_bytes: u64,
+    pub saved_bytes: u64,
+}
+
 /// An accepted program. Threads may share it.
 pub struct Program {
     handle: Mutex<Handle>,
@@ -145,6 +157,14 @@ impl Program {
     pub fn name(&self, node: Node) -> Result<String, Error> {
         let mut handle = self.handle();
         text_of(|bytes, room| unsafe { raw::lus_node_name(&mut handle, node.0, bytes, room.as_mut_ptr(), room.len()) })
+    }
+
+    /// What a step of a node takes at most, and what its instances keep.
+    pub fn cost(&self, node: Node) -> Result<Cost, Error> {
+        let mut bounds = raw::Bounds::default();
+        check(unsafe { raw::lus_cost(&mut self.handle(), node.0, &mut bounds) }, 0)?;
+        let raw::Bounds { orders, row, instance_bytes, saved_bytes } = bounds;
+        Ok(Cost { orders, row, instance_bytes, saved_bytes })
     }
 
     /// The inputs of a node, in declared order.

@@ -6,6 +6,7 @@
 mod files;
 mod instance;
 mod journal;
+mod leading;
 mod mistaken;
 mod sections;
 mod tools;
@@ -15,11 +16,12 @@ mod wrong_line;
 use crate::files::{name_unopened, names_none};
 use crate::instance::{draw_instance, names_instance};
 use crate::journal::JournalFile;
+use crate::leading::{Reported, asks_why, tell_entries_before};
 use crate::mistaken::{explain_rejected, explain_signal, explain_words};
 use crate::tools::arguments_of;
 use crate::usage::{introduce, was_introduced};
 use crate::wrong_line::{Told, explain_line, journal_line};
-use lus_bursts::{Counted, Waiting};
+use lus_bursts::{Counted, Syncs, Waiting};
 use lus_cli::{Fault, command, tell};
 use lus_devices::{Disk, Input, Output, Sink, write_all};
 use lus_lines::Buffered;
@@ -58,7 +60,8 @@ fn tool_and_words(arguments: &[String]) -> (&str, &[String]) {
     }
 }
 
-/// Audits the log of many instances. Keys for the hash function of their names come from the machine.
+/// Audits the log of many instances, and says which entries of its instance stand before the first wrong one where reasons are asked. Keys for
+/// the hash function of their names come from the machine.
 fn audit_many<O: Sink, F: Sink>(
     rt: &HostRuntime,
     words: &[String],
@@ -68,7 +71,14 @@ fn audit_many<O: Sink, F: Sink>(
     let Ok(keys) = RandomState::new(rt) else {
         return tell(faults, Fault::File);
     };
-    lus_audit::command_many(rt.alloc(), &Disk(rt), words, keys, output, faults)
+    let mut reported = Reported::new(rt.alloc(), output);
+    let status = lus_audit::command_many(rt.alloc(), &Disk(rt), words, keys, &mut reported, faults);
+    if let Some(number) = reported.wrong_line() {
+        if asks_why(words) {
+            tell_entries_before(rt, rt.alloc(), words, number, faults);
+        }
+    }
+    status
 }
 
 /// Says that another run writes to the file of a journal or a log, where it is held.
@@ -112,18 +122,23 @@ fn live_many<O: Sink, F: Sink>(
 }
 
 /// Plays calls on an instance, and perhaps goes on in the file of its journal.
-fn live<O: Sink, F: Sink>(
+fn live<O: Syncs, F: Sink>(
     rt: &HostRuntime,
     words: &[String],
     output: &mut O,
     faults: &mut F,
 ) -> u8 {
-    let mut lines = Buffered::new(Input(rt.stdin()));
+    let waiting = Waiting::new();
+    let mut lines = Buffered::new(Counted {
+        waiting: &waiting,
+        source: Input(rt.stdin()),
+    });
     let mut log = JournalFile::new(rt);
     let status = lus_live::command(
         rt.alloc(),
         &Disk(rt),
         words,
+        &waiting,
         &mut lines,
         &mut log,
         output,
@@ -134,7 +149,7 @@ fn live<O: Sink, F: Sink>(
 }
 
 /// Runs the tool of this name, but `lus`, which begins threads: its status.
-fn run<O: Sink, F: Sink>(
+fn run<O: Syncs, F: Sink>(
     rt: &HostRuntime,
     tool: &str,
     words: &[String],
@@ -184,7 +199,7 @@ fn explain_fault<F: Sink>(
 }
 
 /// The same as `run`, of a tool for people, which says more of a fault.
-fn run_for_people<O: Sink, F: Sink>(
+fn run_for_people<O: Syncs, F: Sink>(
     rt: &HostRuntime,
     tool: &str,
     words: &[String],

@@ -1,7 +1,9 @@
 //! Which argument of a tool for people is wrong, and what is near it.
 
 use crate::files::{named_files, opens};
-use crate::tools::{apart_in, arguments_of, numbers_in, value_behind};
+use crate::tools::{
+    apart_in, arguments_of, beside_in, files_in, numbers_in, placed_words, value_behind,
+};
 use crate::wrong_line::read_line;
 use clap::{Arg, ArgAction, Command};
 use lus_cli::{bare, with_flag, with_optional, with_required, with_value};
@@ -81,13 +83,23 @@ fn is_given(words: &[String], argument: &str) -> bool {
     false
 }
 
-/// What is wrong with words each of which is an argument of a tool: two of them exclude each other, or a number is none.
-fn misuse(alloc: Global, tool: &str, words: &[String]) -> Result<String, AllocError> {
+/// Which two of the words exclude each other, or which lacks another one; an empty text where none does.
+fn mismatch(alloc: Global, tool: &str, words: &[String]) -> Result<String, AllocError> {
     for (one, other) in apart_in(tool) {
         if is_given(words, one) && is_given(words, other) {
             return format!(in alloc; "`{one}` and `{other}` do not go together");
         }
     }
+    for (one, other) in beside_in(tool) {
+        if is_given(words, one) && !is_given(words, other) {
+            return format!(in alloc; "`{one}` goes with `{other}` alone");
+        }
+    }
+    Ok(String::new(alloc))
+}
+
+/// Which option has a value that is no number, or no right one; an empty text where none has.
+fn misnumbered(alloc: Global, tool: &str, words: &[String]) -> Result<String, AllocError> {
     for (option, least) in numbers_in(tool) {
         if let Some(value) = value_behind(words, option) {
             let is_taken = value.parse::<u64>().is_ok_and(|number| number >= *least);
@@ -97,6 +109,43 @@ fn misuse(alloc: Global, tool: &str, words: &[String]) -> Result<String, AllocEr
                 );
             }
         }
+    }
+    Ok(String::new(alloc))
+}
+
+/// That other files are named than a tool takes; an empty text where as many are.
+fn misplaced(alloc: Global, tool: &str, words: &[String]) -> Result<String, AllocError> {
+    let count = placed_words(alloc, tool, words)?.len();
+    for (behind, least, most, files) in files_in(tool) {
+        let is_meant = behind.is_empty() || is_given(words, behind);
+        if !is_meant {
+            continue;
+        }
+        if *least <= count && count <= *most {
+            break;
+        }
+        let names = if count == 1 { "name is" } else { "names are" };
+        if behind.is_empty() {
+            return format!(in alloc; "it takes {files}, and {count} {names} given");
+        }
+        return format!(in alloc; "with `{behind}` it takes {files}, and {count} {names} given");
+    }
+    Ok(String::new(alloc))
+}
+
+/// What is wrong with words each of which is an argument of a tool.
+fn misuse(alloc: Global, tool: &str, words: &[String]) -> Result<String, AllocError> {
+    for text in [
+        mismatch(alloc, tool, words)?,
+        misnumbered(alloc, tool, words)?,
+        misplaced(alloc, tool, words)?,
+    ] {
+        if !text.is_empty() {
+            return Ok(text);
+        }
+    }
+    if is_given(words, "--from") && is_given(words, "--to") {
+        return String::from_str(alloc, "`--from` is greater than `--to`");
     }
     let together = "these arguments do not go together, or have another value than they take";
     String::from_str(alloc, together)
@@ -153,7 +202,12 @@ pub fn explain_signal<F: Sink>(
     }
 }
 
-/// Says of a rejected program which command tells why, or that its file is a journal.
+/// Whether a file of this name is likely to be a table.
+fn is_table(name: &str) -> bool {
+    name.ends_with(".csv") || name.ends_with(".jsonl")
+}
+
+/// Says of a rejected program which command tells why, or that its file is a journal or a table.
 pub fn explain_rejected<R: Files, F: Sink>(
     rt: &R,
     alloc: Global,
@@ -173,6 +227,8 @@ pub fn explain_rejected<R: Files, F: Sink>(
     }
     let text = if line.starts_with(b"instance ") {
         format!(in alloc; "{name} is a journal, and the program's file comes first")
+    } else if is_table(name) {
+        format!(in alloc; "{name} is a table, and the program's file comes first")
     } else {
         format!(in alloc; "`lus_explain {name}` says why it is rejected")
     };

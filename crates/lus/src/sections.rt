@@ -59,7 +59,9 @@ the name.
     tel
     -- error E4 line 2 column 5
 
-Declare it, spell it right, or give each output and local one equation. An input has none.
+Declare it, spell it right, or give each output and local one equation. Equations don't replace
+one another as assignments do: `speed = 20; speed = if hot then 80 else speed;` is written
+`speed = if hot then 80 else 20;`. What stands in a comment is no equation. An input has none.
 Constructors and constants share one space of names for the whole source, so two enumerations
 can't share a constructor.
 ";
@@ -110,9 +112,10 @@ each of which needs the next.
     tel
     -- error E7 line 3 column 3 cycle a b
 
-Put a `pre` or a `fby` where the value of the instant before is meant: `a = (0 -> pre b) + x`.
-It has to be outside of calls: each output of a call needs all of the call's arguments at once,
-whatever the called node does with them.
+Put a `pre` or a `fby` where the value of the instant before is meant: `a = (0 -> pre b) + x`. A
+first value stands on the left: `a = b fby 0` needs `b` at the first instant, and `a = 0 fby b`
+doesn't. The `pre` has to be outside of calls: each output of a call needs all of the call's
+arguments at once, whatever the called node does with them.
 ";
 
 const E8: &str = "E8: nil
@@ -211,6 +214,9 @@ const S5: &str = "S5: limits of scripts
 The scripts have more than 1,048,576 bytes, 256 instances, 64 callers, or 10,000 calls of one
 caller. Cut the scripts into several (docs/SERVICE.md), or pipe the calls into `lus_live`, which
 has no such limits.
+
+`lus_live` ends with it too where a node costs more than `--most-orders` or `--most-bytes`
+allow, and says both numbers; `lus_explain --cost PROGRAM` has them for all nodes.
 ";
 
 const S6: &str = "S6: out of memory
@@ -220,8 +226,9 @@ const S6: &str = "S6: out of memory
 
 const WARNINGS: &str = "Warnings
 
-`lus_explain --warnings PROGRAM [SCRIPTS]` tells what the author of an accepted program can
-hardly have meant. No status changes. A name that begins with `_` needs no use.
+`lus_explain PROGRAM [SCRIPTS]` tells what the author of an accepted program can hardly have
+meant. The status is 0; with `--deny-warnings` it is 1. With `--no-warnings` nothing is told. A
+name that begins with `_` needs no use.
 
 unused_input, unused_local
 
@@ -322,6 +329,46 @@ result out of the range of `int`. A call that computes it is `refused fault`.
     tel
 
 Write other numbers, or divide by what is never 0.
+
+hidden_constant
+
+A variable has the name of a constant, which its node can't use then.
+
+    const limit = 10;
+    node over(x, limit: int) returns (high: bool);
+    let
+      high = x > limit;
+    tel
+    
+    node n(x: int) returns (high: bool);
+    let
+      high = x > limit;
+    tel
+
+Give one of them another name.
+
+same_branches
+
+Both branches of an `if` are written alike, so it is the same whatever its test says.
+
+    node n(up: bool; x: int) returns (y: int);
+    let
+      y = if up then x + 1 else x + 1;
+    tel
+
+Write what was meant in one of them, or the branch alone.
+
+exchanged_sides
+
+A literal, a constant or a constructor stands on the right of a `fby`, or of a `->` with a `pre`
+on its left, so the expression is that value at every instant but the first.
+
+    node n(x: int) returns (y: int);
+    let
+      y = x fby 0;
+    tel
+
+The first value stands on the left: `y = 0 fby x`.
 ";
 
 /// The section on this number of an error, or on warnings.

@@ -6,15 +6,19 @@ use std::alloc::{AllocError, Global};
 /// brackets where it may be missing and dots where it may be there several times.
 pub fn arguments_of(tool: &str) -> Option<&'static str> {
     match tool {
-        "lus_explain" => Some("--json --warnings --script= --error= PROGRAM [SCRIPTS]"),
+        "lus_explain" => Some(
+            "--json --no-warnings --deny-warnings --cost --script= --error= PROGRAM [SCRIPTS]",
+        ),
         "lus_format" => Some("--check --write FILE.."),
         "lus_draw" => Some(
             "--html --waves --csv --vcd --all --from= --to= --signals= --instance= PROGRAM [JOURNAL] [LOG]",
         ),
         "lus_audit" => Some("--why --many PROGRAM JOURNAL [LOG]"),
-        "lus_live" => Some("--json --csv --many --sync --caller= PROGRAM NODE [JOURNAL]"),
+        "lus_live" => Some(
+            "--json --csv --many --sync --caller= --most-orders= --most-bytes= PROGRAM NODE [JOURNAL]",
+        ),
         "lus_test" => Some(
-            "--write --node= --random= --check= --steps= --seed= --range= PROGRAM TABLE..",
+            "--write --journal --coverage --json --node= --random= --check= --steps= --seed= --range= PROGRAM TABLE..",
         ),
         "lus_lsp" => Some("--stdio"),
         _ => None,
@@ -24,6 +28,12 @@ pub fn arguments_of(tool: &str) -> Option<&'static str> {
 /// Arguments of a tool for people, of each of which pairs one at most is taken.
 pub fn apart_in(tool: &str) -> &'static [(&'static str, &'static str)] {
     match tool {
+        "lus_explain" => &[
+            ("--no-warnings", "--deny-warnings"),
+            ("--cost", "--no-warnings"),
+            ("--cost", "--deny-warnings"),
+            ("--cost", "--script"),
+        ],
         "lus_format" => &[("--check", "--write")],
         "lus_draw" => &[
             ("--html", "--waves"),
@@ -35,7 +45,50 @@ pub fn apart_in(tool: &str) -> &'static [(&'static str, &'static str)] {
             ("--all", "--signals"),
         ],
         "lus_live" => &[("--json", "--csv"), ("--csv", "--many")],
-        "lus_test" => &[("--write", "--random")],
+        "lus_test" => &[
+            ("--write", "--random"),
+            ("--write", "--journal"),
+            ("--write", "--coverage"),
+            ("--journal", "--coverage"),
+            ("--journal", "--random"),
+            ("--coverage", "--random"),
+        ],
+        _ => &[],
+    }
+}
+
+/// Arguments of a tool for people, of each of which pairs the first is taken beside the other alone.
+pub fn beside_in(tool: &str) -> &'static [(&'static str, &'static str)] {
+    match tool {
+        "lus_test" => &[
+            ("--json", "--coverage"),
+            ("--check", "--random"),
+            ("--steps", "--random"),
+            ("--seed", "--random"),
+            ("--range", "--random"),
+        ],
+        _ => &[],
+    }
+}
+
+/// What stands at its place among the arguments of a tool for people, where that isn't the same in all its forms: behind which argument,
+/// how many words at least and at most, and which. The first that is behind an argument which is given counts, or the one behind none.
+pub fn files_in(tool: &str) -> &'static [(&'static str, usize, usize, &'static str)] {
+    match tool {
+        "lus_draw" => &[
+            ("--instance", 3, 3, "PROGRAM NODE LOG"),
+            ("--html", 1, 2, "PROGRAM JOURNAL, or JOURNAL alone"),
+            ("", 2, 2, "PROGRAM JOURNAL"),
+        ],
+        "lus_audit" => &[
+            ("--many", 3, 3, "PROGRAM NODE LOG"),
+            ("", 2, 2, "PROGRAM JOURNAL"),
+        ],
+        "lus_test" => &[
+            ("--random", 1, 1, "PROGRAM"),
+            ("--write", 2, 2, "PROGRAM and one TABLE"),
+            ("--journal", 2, 2, "PROGRAM and one TABLE"),
+        ],
         _ => &[],
     }
 }
@@ -44,6 +97,7 @@ pub fn apart_in(tool: &str) -> &'static [(&'static str, &'static str)] {
 pub fn numbers_in(tool: &str) -> &'static [(&'static str, u64)] {
     match tool {
         "lus_draw" => &[("--from", 1), ("--to", 1)],
+        "lus_live" => &[("--most-orders", 0), ("--most-bytes", 0)],
         "lus_test" => &[("--random", 1), ("--steps", 1), ("--seed", 0)],
         _ => &[],
     }

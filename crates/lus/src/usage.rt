@@ -7,17 +7,21 @@ use lus_devices::{Failure, Sink, write_all};
 
 const VERSION: &str = " 0.1.0\n";
 
-const EXPLAIN: &str = "usage: lus_explain [--json] [--warnings] PROGRAM [SCRIPTS]
+const EXPLAIN: &str =
+    "usage: lus_explain [--json] [--no-warnings | --deny-warnings] PROGRAM [SCRIPTS]
+       lus_explain --cost [--json] PROGRAM
        lus_explain --script NODE PROGRAM
        lus_explain --error NUMBER
 
-Says why a program, or its scripts, are rejected, and what to write; of an accepted program
-its types and nodes. It runs nothing.
+Says why a program, or its scripts, are rejected, and what to write; of an accepted program its
+types and nodes, and what its author can hardly have meant, which are warnings. It runs nothing.
 
-  --json         an object of JSON for each error, on a line of its own
-  --warnings     also what an accepted program's author can hardly have meant
-  --script NODE  scripts to begin from, for an instance of NODE
-  --error NUMBER what E1 to E11 and S1 to S6 mean, or `warnings`, and what to do
+  --json           an object of JSON for each error and each warning, on a line of its own
+  --no-warnings    no warnings
+  --deny-warnings  status 1 also where there is a warning
+  --cost           what a step of each node takes at most, and an instance and a saved state
+  --script NODE    scripts to begin from, for an instance of NODE
+  --error NUMBER   what E1 to E11 and S1 to S6 mean, or `warnings`, and what to do
 
 Status: 0 accepted, 1 the program is rejected, 2 the scripts, 3 a file or the output fails, 4 out of memory.
 ";
@@ -53,7 +57,7 @@ shows the journal's lines. Status: 0 drawn, 1 to 4 as lus.
 ";
 
 const AUDIT: &str = "usage: lus_audit [--why] PROGRAM JOURNAL
-       lus_audit --many PROGRAM NODE LOG
+       lus_audit --many [--why] PROGRAM NODE LOG
 
 Says whether each reply of a journal is the right one to its request, after those before it,
 by a new run of the program: `NAME lawful` for each instance, or the first wrong line with
@@ -61,46 +65,46 @@ the right one.
 
   --why  why each request of a valid journal that was refused is: which input, its type or
          clock; or which operation has no value, with its operands and its place
-  --many a log of instances of NODE, which `lus_live --many` wrote
+  --many a log of instances of NODE, which `lus_live --many` wrote; with --why a file, no pipe
 
 Status: 0 valid, 1 the program is rejected, 2 a wrong line, or no journal,
 3 a file or the output fails, 4 out of memory.
 ";
 
-const LIVE: &str = "usage: lus_live [--json | --csv] [--caller NAME] PROGRAM NODE [JOURNAL]
+const LIVE: &str = "usage: lus_live [--json | --csv] [--caller NAME] [--sync] PROGRAM NODE [JOURNAL]
        lus_live --many [--json] PROGRAM NODE [[--caller NAME] [--sync] LOG]
 
-Runs a node in a pipe: reads calls from standard input, a line of JSON each, and writes the
-journal's entry of each, by the caller NAME or `user`, before it reads the next; with --json its
-reply as JSON. With --csv it reads inputs as CSV below a line of their names, and writes outputs
-so. It goes on behind JOURNAL, replayed first: `lus_live PROGRAM NODE log < calls >> log`, also
-after any kill; with --json it writes each entry to JOURNAL itself, and then the reply, as with
---many to LOG, with --sync to its disk. A line of --many is INSTANCE CALLER CALL, or an old entry.
+Runs a node in a pipe: reads calls from standard input, a line of JSON each, and writes the entry
+of each, by the caller NAME or `user`, before it reads the next; with --json its reply as JSON.
+With --csv it reads inputs as CSV below a line of their names, and writes outputs so. It goes on
+behind JOURNAL, replayed first: `lus_live PROGRAM NODE log < calls >> log`, also after any kill;
+with --json or --csv it writes entries to JOURNAL itself, then replies, as --many to LOG, with
+--sync once on its disk. A line of --many is INSTANCE CALLER CALL, or an old entry. A node that
+takes more than --most-orders N a step or --most-bytes N an instance isn't run.
 
   [18, 19, 22]                 a step with the inputs in their order, null for an absent one
   {\"inputs\": {\"low\": 19, ..}}  a step with the inputs by their names
   {\"reset\": true}, {\"save\": 0}, {\"restore\": 0}, {\"burst\": [[..], ..]}
 
-Status: 0 all lines were calls, 1 the program is rejected, 2 a line is none, or an entry is wrong,
-3 and 4 as lus.
+Status: 0 all lines were calls, 1 program rejected, 2 a line is none, an entry wrong, 3, 4 as lus.
 ";
 
-const TEST: &str = "usage: lus_test [--write] [--node NODE] PROGRAM TABLE..
+const TEST: &str = "usage: lus_test [--coverage [--json]] [--node NODE] PROGRAM TABLE..
+       lus_test --write | --journal [--node NODE] PROGRAM TABLE
        lus_test --random N --check OUTPUT [--node NODE] [--steps K] [--seed S]
                 [--range INPUT=LOW..HIGH].. PROGRAM
 
-Tries a node, NODE or the one whose name TABLE has before its first dot, on comma-separated
-values: a line of names of inputs and outputs, then a row for each instant. An empty cell is an
-absent input, or an output of which nothing is asked; `-` asks for an absent one.
+Tries a node, NODE or the one whose name TABLE has before its first dot, on rows for its instants:
+CSV below names of inputs and outputs, or in a file *.jsonl an object of JSON on each line. What
+is empty or missing is an absent input or asks nothing of an output; `-`, null ask for absence.
 
-  --write   print the one TABLE with the outputs that come in place of those expected
-  --random  try whether OUTPUT is false, or a step refused, in N runs of random inputs, and print
-            such a run, made short and simple, as a table of NODE or of the node with OUTPUT
-  --steps   the instants of a run, or 100; --seed: the number that all inputs follow from, or 1
+  --coverage  how often each branch of `if` and `merge` was taken; with --json as objects
+  --write, --journal  print the TABLE with the outputs that come, or the journal of its run
+  --random  try in N runs of random inputs, of K instants or 100, from seed S or 1, whether OUTPUT
+            is false, or a step refused, and print such a run, made short, as a table
   --range   the numbers of an input, or of a field x.f, or -10 to 10
 
-Status: 0 passed, 1 not passed, or the program is rejected, 2 a table isn't right, or has no
-node, 3 a file or the output fails, 4 out of memory; of several tables the greatest.
+Status: 0 passed, 1 not, or program rejected, 2 a table isn't right, 3 file or output, 4 memory.
 ";
 
 const LSP: &str = "usage: lus_lsp --stdio

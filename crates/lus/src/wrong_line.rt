@@ -84,7 +84,7 @@ fn entries_with(entries: u64, line: &[u8]) -> u64 {
 }
 
 /// Whether a line of a log is an entry of an instance.
-fn is_entry_of(instance: &str, line: &[u8]) -> bool {
+pub fn is_entry_of(instance: &str, line: &[u8]) -> bool {
     match line.strip_prefix(instance.as_bytes()) {
         Some([b' ', digit, ..]) => digit.is_ascii_digit(),
         _ => false,

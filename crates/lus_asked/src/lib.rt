@@ -8,4 +8,5 @@ mod request;
 mod value;
 
 pub use asked::read_asked;
+pub use number::natural;
 pub use value::read_word;

@@ -14,7 +14,7 @@ pub(crate) fn begins_number(text: &[u8]) -> bool
 }
 
 /// A number of 64 bits without a sign.
-pub(crate) fn natural(text: &str) -> Option<u64>
+pub fn natural(text: &str) -> Option<u64>
     ensures { result ≡ number_below (2 ^ 64) text.now }
 {
     if begins_number(text.as_bytes()) {

@@ -1,5 +1,6 @@
 -- Reasons of entries, of journals and of reports.
-use Rattle.std.proofs.Common.{◌≡◌, ◌∙◌, ◌++◌, ℕ, false, true, refl, ap, ap₂, sym, subst, List, [], ◌∷◌, Option, Some, append_assoc, append-nil}
+use Rattle.std.proofs.Common.{arith, ◌≡◌, ◌∙◌, ◌++◌, ◌==◌, ℕ, Bool, false, true, true≢false, refl, ap, ap₂, sym, subst, List, [], ◌∷◌, length, codes, Option, Some, append_assoc, append-nil}
+use Rattle.std.proofs.lemmas.Bool.{eqb-true}
 use Rattle.std.specs.Prelude.{is_none, string_bytes}
 use Rattle.std.specs.List.{AllZip, concat}
 use Rattle.lus_values.specs.Names.{Names, Text}
@@ -17,7 +18,7 @@ use Rattle.lus_hosting.specs.LawfulSpecs.Audits.{Gathers, HasAudited}
 use Rattle.lus_hosting.specs.LawfulSpecs.Findings.{FindsAll}
 use Rattle.lus_hosting.specs.LawfulSpecs.Journals.{Journal, entries_of}
 use Rattle.lus_hosting.proofs.LawfulProofs.AuditLaws.{audited_so}
-use Rattle.lus_audit.specs.Ends.{IsReported}
+use Rattle.lus_audit.specs.Ends.{IsReported, shown}
 use Rattle.lus_audit.specs.Reasons.{AreReasons, IsTold, TellsJournal, TellsJournals}
 
 -- ---- entries
@@ -72,7 +73,7 @@ module _ (p : Program) (wrong : Option ℕ) (left : Option Bytes) (found : Text)
   -- with the reasons of the journals
   pub explained : (old reasons report : Text) (r : Option ℕ) → old ≡ [] → r ≡ wrong
       → HasAudited p (Gathers (λ js. TellsJournals p js old) (λ js. TellsJournals p js reasons)) wrong left found
-      → FindsAll p (is_none wrong) left found → report ≡ found ++ reasons → IsReported p true (is_none r) left report
+      → FindsAll p (is_none wrong) left found → report ≡ shown found ++ reasons → IsReported p true (is_none r) left report
   explained old reasons report r none same sound complete reported = record {
     found = found;
     reasons = reasons;
@@ -86,14 +87,25 @@ module _ (p : Program) (wrong : Option ℕ) (left : Option Bytes) (found : Text)
   }
 
   -- or without
-  pub plain : (Gathered : List Journal → Type 0) → HasAudited p Gathered wrong left found → FindsAll p (is_none wrong) left found
-      → IsReported p false (is_none wrong) left found
-  plain Gathered sound complete = record {
+  pub plain : (Gathered : List Journal → Type 0) (report : Text) (r : Option ℕ) → r ≡ wrong → HasAudited p Gathered wrong left found
+      → FindsAll p (is_none wrong) left found → report ≡ shown found → IsReported p false (is_none r) left report
+  plain Gathered report r same sound complete reported = record {
     found = found;
     reasons = [];
-    wrong = wrong;
+    wrong = r;
     status = refl;
-    sound = audited_so p Gathered (AreReasons false p []) wrong left found (λ js gathered. refl) sound;
-    complete = complete;
-    reported = sym (append-nil found);
+    sound = subst (λ w. HasAudited p (AreReasons false p []) w left found) (sym same)
+        (audited_so p Gathered (AreReasons false p []) wrong left found (λ js gathered. refl) sound);
+    complete = subst (λ w. FindsAll p (is_none w) left found) (sym same) complete;
+    reported = reported ∙ sym (append-nil (shown found));
   }
+
+-- what isn't empty is shown as it is
+pub shown_some : (found : Text) (b : Bool) → b ≡ (length found == 0) → b ≡ false → found ≡ shown found
+shown_some [] b is some = absurd (true≢false (sym is ∙ some))
+shown_some (x ∷ found) b is some = refl
+
+-- and what is says so
+pub shown_none : (found text : Text) (b : Bool) → b ≡ (length found == 0) → b ≡ true → text ≡ found ++ codes "no journal\n" → text ≡ shown found
+shown_none [] text b is empty grown = grown
+shown_none (x ∷ found) text b is empty grown = absurd (omega (arith, eqb-true (length (x ∷ found)) 0 (sym is ∙ empty)))

@@ -1,5 +1,5 @@
 -- How an audit ends: what was found of the journals, or which fault ended it.
-use Rattle.std.specs.Prelude.{◌≡◌, ◌⊎◌, ◌++◌, ℕ, Bool, true, false, Option, Some, Result, is_none, ⊤}
+use Rattle.std.specs.Prelude.{◌≡◌, ◌⊎◌, ◌++◌, ℕ, Bool, true, false, [], ◌∷◌, Option, Some, Result, codes, is_none, ⊤}
 use Rattle.lus_program.specs.Programs.{Program}
 use Rattle.lus_devices.specs.Devices.{Bytes}
 use Rattle.lus_devices.specs.Folders.{Known, WithFile}
@@ -21,6 +21,11 @@ use Rattle.lus_audit.specs.Reasons.{AreReasons}
 abbrev pub IsOfFile : Known → Program → Type 0
 IsOfFile file p = WithFile file (λ text. Accepted text p)
 
+-- what is found, which says where it is of no journal
+abbrev pub shown : Text → Text
+shown [] = codes "no journal\n"
+shown (b ∷ found) = b ∷ found
+
 -- What is found of bytes is so, and of journals that can be read back what is to be found is found. It is reported, with the reasons of
 -- the lawful journals' refusals behind it where they are asked.
 pub record IsReported (p : Program) (is_why is_lawful : Bool) (left : Option Bytes) (report : Text) : Type 0 where
@@ -30,7 +35,7 @@ pub record IsReported (p : Program) (is_why is_lawful : Bool) (left : Option Byt
   pub status : is_lawful ≡ is_none wrong
   pub sound : HasAudited p (AreReasons is_why p reasons) wrong left found
   pub complete : FindsAll p is_lawful left found
-  pub reported : report ≡ found ++ reasons
+  pub reported : report ≡ shown found ++ reasons
 
 -- the journals of a file are audited by the program of another
 abbrev pub IsAudited : Known → Known → Bool → Bool → Text → Type 0

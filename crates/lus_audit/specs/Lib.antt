@@ -1,4 +1,5 @@
 pub mod CommandLine
 pub mod Ends
 pub mod Reasons
+pub mod LogReasons
 pub mod Logs

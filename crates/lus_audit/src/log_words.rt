@@ -6,12 +6,13 @@ ghost use Rattle.lus_cli.specs.declared.words.WordsError.TheVariants.{Mistaken};
 ghost use Rattle.lus_audit.specs.Logs.{asked, said, task_seen, the_command};
 
 use clap::{ArgMatches, Command};
-use lus_cli::{WordsError, bare, matches, value_of, with_flag, with_required};
+use lus_cli::{WordsError, bare, is_set, matches, value_of, with_flag, with_required};
 use std::alloc::{AllocError, Global};
 
-/// What the words ask for: an audit of a file's log, of instances of a node of a program.
+/// What the words ask for: an audit of a file's log, of instances of a node of a program, and perhaps why requests were refused.
 #[derive(Clone, Copy)]
 pub struct LogTask<'a> {
+    pub is_why: bool,
     pub program: &'a str,
     pub node: &'a str,
     pub log: &'a str,
@@ -21,7 +22,8 @@ fn command<'a>(alloc: Global) -> Result<Command<'a>, AllocError>
     ensures { IfOk result (λ c. app_of c ≡ the_command) }
 {
     let many = with_flag(alloc, bare(alloc, "lus_audit"), "many")?;
-    let program = with_required(alloc, many, "PROGRAM")?;
+    let why = with_flag(alloc, many, "why")?;
+    let program = with_required(alloc, why, "PROGRAM")?;
     let node = with_required(alloc, program, "NODE")?;
     with_required(alloc, node, "LOG")
 }
@@ -42,5 +44,10 @@ fn choose<'a>(matches: &ArgMatches<'a>) -> Option<LogTask<'a>>
     let program = value_of(matches, "PROGRAM")?;
     let node = value_of(matches, "NODE")?;
     let log = value_of(matches, "LOG")?;
-    Some(LogTask { program, node, log })
+    Some(LogTask {
+        is_why: is_set(matches, "why"),
+        program,
+        node,
+        log,
+    })
 }

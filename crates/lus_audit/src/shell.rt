@@ -1,6 +1,6 @@
 //! The command line over a folder.
 
-ghost use Rattle.std.specs.Prelude.{◌≡◌, ◌++◌, IfErr, IfOk, is_none, map, string_bytes, true};
+ghost use Rattle.std.specs.Prelude.{◌≡◌, ◌++◌, IfErr, IfOk, false, is_none, map, string_bytes, true};
 ghost use Rattle.std.specs.Arc.{arc_value};
 ghost use Rattle.lus_cli.specs.Changes.{change};
 ghost use Rattle.lus_cli.specs.Ends.{AskedEnds, Ends, ReadFails};
@@ -8,7 +8,7 @@ ghost use Rattle.lus_cli.specs.CodeSpecs.Codes.{program_of};
 ghost use Rattle.lus_hosting.specs.LawfulSpecs.Errors.{BlamesIf, IsOutside};
 ghost use Rattle.lus_hosting.specs.LawfulSpecs.Findings.{AreNone};
 ghost use Rattle.lus_audit.specs.CommandLine.{asked};
-ghost use Rattle.lus_audit.specs.Ends.{AuditFails, IsAudited, IsReported, TaskEnds, audit_fault, audit_status};
+ghost use Rattle.lus_audit.specs.Ends.{AuditFails, IsAudited, IsReported, TaskEnds, audit_fault, audit_status, shown};
 
 use crate::reasons::Explanations;
 use crate::words::{Task, read_words};
@@ -29,12 +29,27 @@ pub(crate) fn fault_of(error: AuditError) -> Fault
     }
 }
 
-/// The report with reasons behind it.
-fn with_reasons(report: Report, reasons: &[u8]) -> Result<Report, AuditError>
-    ensures ok { IfOk result (λ r. (r.wrong ≡ report.wrong) × (r.text.items ≡ report.text.items ++ reasons.now)) }
+/// The report as it is shown, which says where no journal was found.
+fn shown(report: Report) -> Result<Report, AuditError>
+    ensures ok { IfOk result (λ r. (r.wrong ≡ report.wrong) × (r.text.items ≡ shown report.text.items)) }
     ensures memory { IfErr result IsOutside }
 {
+    if !report.text.is_empty() {
+        return Ok(report);
+    }
     let mut report = report;
+    match report.text.extend_from_slice(b"no journal\n") {
+        Ok(()) => Ok(report),
+        Err(_) => Err(AuditError::Memory),
+    }
+}
+
+/// The report as it is shown, with reasons behind it.
+fn with_reasons(report: Report, reasons: &[u8]) -> Result<Report, AuditError>
+    ensures ok { IfOk result (λ r. (r.wrong ≡ report.wrong) × (r.text.items ≡ shown report.text.items ++ reasons.now)) }
+    ensures memory { IfErr result IsOutside }
+{
+    let mut report = shown(report)?;
     if report.text.extend_from_slice(reasons).is_err() {
         return Err(AuditError::Memory);
     }
@@ -58,6 +73,21 @@ fn explain<S: Source>(
     }
 }
 
+/// Audits journals, without reasons.
+fn audit_plain<S: Source>(
+    alloc: Global,
+    program: &Arc<Program>,
+    source: &mut S,
+) -> Result<Report, AuditError>
+    ensures ok { IfOk result (λ r. IsReported (program_of (arc_value program.now)) false (is_none r.wrong) (S.left source.old) r.text.items) }
+    ensures blames { IfErr result (BlamesIf (AreNone (program_of (arc_value program.now)) (S.left source.old))) }
+{
+    match audit(alloc, program, source, &mut Unobserved) {
+        Ok(report) => shown(report),
+        Err(error) => Err(error),
+    }
+}
+
 /// Audits journals, with the reasons of their refusals where they are asked.
 fn audit_journals<S: Source>(
     alloc: Global,
@@ -71,7 +101,7 @@ fn audit_journals<S: Source>(
     if is_why {
         explain(alloc, program, source)
     } else {
-        audit(alloc, program, source, &mut Unobserved)
+        audit_plain(alloc, program, source)
     }
 }
 

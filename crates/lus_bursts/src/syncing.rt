@@ -2,7 +2,8 @@
 
 ghost use Rattle.std.specs.Prelude.{◌≡◌, OnOk};
 
-use lus_devices::{Failure, Sink};
+use lus_devices::{Failure, Output, Sink};
+use std::io::Write;
 
 /// A device whose bytes can be brought to a medium that keeps them when the power fails.
 pub trait Syncs: Sink {
@@ -22,5 +23,14 @@ impl Syncs for Vec<u8> {
 
     fn sync(&mut self) -> Result<(), Failure> {
         Ok(())
+    }
+}
+
+/// A writer of the machine, as the standard output, isn't brought to a medium.
+impl<W: Write> Syncs for Output<W> {
+    ghost syncs = { λ _ _. ⊥ };
+
+    fn sync(&mut self) -> Result<(), Failure> {
+        Err(Failure)
     }
 }

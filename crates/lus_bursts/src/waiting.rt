@@ -13,14 +13,11 @@ impl Waiting {
         Waiting(Cell::new(0))
     }
 
-    /// Whether a line waits.
-    pub fn is_any(&self) -> bool {
-        self.0.get() > 0
-    }
-
-    /// Counts a line that was taken.
-    pub fn take(&self) {
-        self.0.set(self.0.get().saturating_sub(1));
+    /// Counts a line that was taken, and says whether no other waits.
+    pub fn take(&self) -> bool {
+        let others = self.0.get().saturating_sub(1);
+        self.0.set(others);
+        others == 0
     }
 
     /// Counts the lines that end in these bytes, which were read.

@@ -1,5 +1,5 @@
 -- What C is told of a program that a handle holds.
-use Rattle.std.specs.Prelude.{◌≡◌, ◌==◌, ℕ, Option, Some, None, IsTrue, IsUtf8, length, slice_get}
+use Rattle.std.specs.Prelude.{◌≡◌, ◌==◌, ◌<◌, ◌≤◌, ℕ, Option, Some, None, IsTrue, IsUtf8, length, slice_get}
 use Rattle.std.specs.Option.{option_map, option_and_then}
 use Rattle.std.specs.Arc.{arc_value}
 use Rattle.lus_syntax.specs.Lexemes.{Text}
@@ -11,12 +11,16 @@ use Rattle.lus_program.specs.declared.types.Kind.TheVariants.{Bool, Int, Enum, S
 use Rattle.lus_program.specs.Kinds.{fields_in}
 use Rattle.lus_program.specs.Resolved.{declared_in}
 use Rattle.lus_leaves.specs.Writing.{over}
-use Rattle.lus_shared.specs.CodeSpecs.Codes.{program_of}
+use Rattle.lus_shared.specs.CodeSpecs.Codes.{ProgramCode, program_of}
 use Rattle.lus_shared.specs.MachineSpecs.Constructors.{names_of}
+use Rattle.lus_shared.specs.MachineSpecs.CostSpecs.Costs.{IsCost}
+use Rattle.lus_shared.specs.MachineSpecs.CostSpecs.Places.{place_bytes}
+use Rattle.lus_shared.specs.MachineSpecs.CostSpecs.declared.cost.Cost.{Cost}
 use Rattle.lus_shared.specs.MachineSpecs.Formals.{node_named, inputs_of, outputs_of}
 pub use Rattle.lus_foreign.specs.Holds.{IsHandle}
 use Rattle.lus_c.specs.Held.{IsOkay}
 use Rattle.lus_c.specs.Served.{IsNone}
+use Rattle.lus_c.specs.declared.programs.CostOut.{CostOut}
 use Rattle.lus_c.specs.declared.programs.FormalOut.{FormalOut}
 use Rattle.lus_foreign.specs.declared.content.Content.{Content as ContentType}
 use Rattle.lus_foreign.specs.declared.content.Content.TheVariants.{Program as IsProgram}
@@ -29,6 +33,11 @@ IsText n = IsTrue (n == 10)
 abbrev pub OfHeldProgram : Option ContentType → ℕ → (Program → Type 0) → Type 0
 OfHeldProgram (Some (IsProgram p)) status P = P (program_of (arc_value p))
 OfHeldProgram _ status P = IsHandle status
+
+-- likewise of its code
+abbrev pub OfHeldCode : Option ContentType → ℕ → (ProgramCode → Type 0) → Type 0
+OfHeldCode (Some (IsProgram p)) status P = P (arc_value p)
+OfHeldCode _ status P = IsHandle status
 
 -- how many nodes there are
 abbrev pub NodesAreTold : Program → (status count : ℕ) → Type 0
@@ -53,6 +62,18 @@ NameIsTold (Some name) status bytes olds news = IsOkay status × (bytes ≡ leng
 abbrev pub FormalsAreTold : Option Node → (status inputs outputs : ℕ) → Type 0
 FormalsAreTold None status inputs outputs = IsNone status
 FormalsAreTold (Some f) status inputs outputs = IsOkay status × (inputs ≡ f.inputs) × (outputs ≡ f.outputs)
+
+abbrev pub cost_out : Cost → CostOut
+cost_out k = record { orders = k.orders; row = k.row; instance_bytes = k.instance_bytes; saved_bytes = k.saved_bytes }
+
+-- what a node costs that there is
+abbrev pub NodeCosts : ProgramCode → (node : ℕ) → CostOut → Type 0
+NodeCosts c node out = (cost : Cost) × IsCost c.emitted (place_bytes c.source.program) node cost × (out ≡ cost_out cost)
+
+-- what the node costs, or that there is none
+pub record CostIsTold (c : ProgramCode) (node status : ℕ) (out : CostOut) : Type 0 where
+  pub costs : node < length (program_of c).nodes → IsOkay status × NodeCosts c node out
+  pub none : length (program_of c).nodes ≤ node → IsNone status
 
 -- the number of a kind of values, and that of an enumeration's or a structure's type
 abbrev pub kind_code : Kind → ℕ

@@ -4,14 +4,14 @@ ghost use Rattle.std.specs.Option.{option_map};
 ghost use Rattle.lus_program.specs.View.{variable_of, field_of};
 ghost use Rattle.lus_leaves.specs.Writing.{over};
 ghost use Rattle.lus_c.specs.Held.{IsOkay};
-ghost use Rattle.lus_c.specs.Queries.{FormalIsTold, FormalsAreTold, IsHandle, NameIsTold, NodeIsTold, NodesAreTold};
-ghost use Rattle.lus_c.specs.Queries.{OfHeldProgram, constructor_at, field_at, input_at, node_name_at, output_at};
+ghost use Rattle.lus_c.specs.Queries.{CostIsTold, FormalIsTold, FormalsAreTold, IsHandle, NameIsTold, NodeIsTold, NodesAreTold};
+ghost use Rattle.lus_c.specs.Queries.{OfHeldCode, OfHeldProgram, cost_out, constructor_at, field_at, input_at, node_name_at, output_at};
 ghost use Rattle.lus_c.specs.Queries.{as_variable, clock_code, kind_code, type_of};
 
 use crate::status::{NONE, OK, TEXT};
 use lus_foreign::{Content, HANDLE, Handle};
 use lus_program::{Kind, Test};
-use lus_shared::lus_machine::{Field, Formal, NodeId};
+use lus_shared::lus_machine::{Cost, Field, Formal, NodeId};
 use std::alloc::Global;
 use std::str;
 
@@ -27,6 +27,15 @@ pub struct FormalOut {
     unused: u32,
     /// How many bytes its name has.
     bytes: u64,
+}
+
+/// What a step of a node takes at most, and what its instances keep.
+#[repr(C)]
+pub struct CostOut {
+    orders: u64,
+    row: u64,
+    instance_bytes: u64,
+    saved_bytes: u64,
 }
 
 /// How many nodes a program has.
@@ -122,6 +131,37 @@ pub extern "C" fn lus_raw_formals(
             }
             None => NONE,
         }
+    };
+    handle.with(alloc, &mut ask)
+}
+
+fn write_cost(out: &mut CostOut, cost: Cost)
+    ensures { out.new ≡ cost_out cost }
+{
+    out.orders = cost.orders;
+    out.row = cost.row;
+    out.instance_bytes = cost.instance_bytes;
+    out.saved_bytes = cost.saved_bytes;
+}
+
+/// What a step of a node takes at most, and what its instances keep.
+#[unsafe(no_mangle)]
+pub extern "C" fn lus_raw_cost(
+    alloc: Global,
+    handle: &mut Handle,
+    node: u32,
+    out: &mut CostOut,
+) -> u32
+    ensures told { OfHeldCode handle.old.kept.held result (λ c. CostIsTold c node result out.new) }
+    ensures same { handle.new.kept.held ≡ handle.old.kept.held }
+{
+    let mut ask = |content: &Content| match content {
+        Content::Program(program) if program.has(NodeId(node)) => {
+            write_cost(out, program.cost(NodeId(node)));
+            OK
+        }
+        Content::Program(_) => NONE,
+        _ => HANDLE,
     };
     handle.with(alloc, &mut ask)
 }

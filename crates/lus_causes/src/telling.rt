@@ -78,7 +78,7 @@ fn may_add(number: RefusalNumber) -> &'static [&'static str] {
         RefusalNumber::Name => &[
             "if", "<", "then", "-", "else", "when", "not", "and", "->", "pre", "=",
         ],
-        RefusalNumber::Type => &["->", ">=", ".", "<>"],
+        RefusalNumber::Type => &["->", ">=", ".", "<>", "=", "if", "then", "else"],
         RefusalNumber::Nil => &["->"],
         RefusalNumber::Clock => &["when", "not", "merge", "->"],
         RefusalNumber::Cycle => &["pre", "->"],

@@ -7,9 +7,7 @@ pub mod Laws
 pub mod Played
 pub mod View
 pub mod Looks
-pub mod Places
 pub mod Parts
-pub mod Instants
 pub mod Turns
 pub mod Passing
 pub mod Variables

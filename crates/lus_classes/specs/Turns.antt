@@ -1,13 +1,11 @@
 -- The order in which the steps of a class are made.
-use Rattle.std.specs.Prelude.{◌≡◌, ℕ, ◌<◌, ◌⊎◌, nat_lt, List, [], ◌∷◌, length, Some, slice_get}
+use Rattle.std.specs.Prelude.{◌≡◌, ℕ, ◌<◌, ◌⊎◌, nat_lt, List, [], ◌∷◌, length}
 use Rattle.lus_values.specs.Lists.{Each}
 use Rattle.lus_classes.specs.ClassesOf.{InTurn}
-use Rattle.lus_classes.specs.States.{WithinDepth}
 use Rattle.lus_instructions.specs.declared.class.Class.{Class}
 use Rattle.lus_instructions.specs.declared.class.Step.{Step}
 use Rattle.lus_instructions.specs.declared.class.Step.TheVariants.{Give, Call}
-use Rattle.lus_classes.specs.Places.{HasRoom}
-use Rattle.lus_classes.specs.View.{steps_of, class_of, classes_of}
+use Rattle.lus_classes.specs.View.{steps_of, class_of}
 
 -- a step makes call n
 abbrev pub Makes : ℕ → Step → Type 0
@@ -36,21 +34,3 @@ pub record HasTurns (c : Class) : Type 0 where
   pub given : Each (GivesSome (length c.calls.items)) c.steps.items
   pub every : (n : ℕ) → n < length c.calls.items → AreMaking n c.steps.items
   pub once : AreOnce c.steps.items
-
--- a class can be run
-pub record IsReady (classes : List Class) (c : Class) : Type 0 where
-  pub room : HasRoom classes c
-  pub turns : HasTurns c
-
-abbrev pub AreReady : List Class → Type 0
-AreReady classes = (g : ℕ) (c : Class) → slice_get classes g ≡ Some c → IsReady classes c
-
--- the calls of a class are nested within a depth
-abbrev pub CallsWithin : List Class → ℕ → Class → Type 0
-CallsWithin classes depth c = Each (λ q. WithinDepth (classes_of classes) depth q.node) (class_of c).calls
-
--- a class can be run with all that it calls, within a depth
-pub record CanRun (classes : List Class) (depth : ℕ) (c : Class) : Type 0 where
-  pub all : AreReady classes
-  pub ready : IsReady classes c
-  pub within : CallsWithin classes depth c

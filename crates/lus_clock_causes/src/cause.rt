@@ -4,9 +4,13 @@ use crate::choosing::chosen;
 use crate::clock::Clocks;
 use crate::completing::value_of_variable;
 use crate::declared::wrong_clock;
+use crate::lacking::told_of_lacking;
 use crate::mending::{Context, mended};
 use crate::placing::{Misplaced, misplaced_in};
-use crate::redeclaring::{Redeclared, declaration_at_fault, declaration_of_result};
+use crate::redeclaring::{
+    FEWEST_MENDED, Redeclared, declaration_of_left, declaration_of_name, declaration_of_result,
+    declaration_with_users,
+};
 use crate::sampling::{is_sampled_otherwise, note_on_memory};
 use crate::unnamed::unnamed_clock;
 use lus_faults::{Finding, Sought, extent_of, slice_of, start_of};
@@ -106,9 +110,17 @@ fn told(
         finding.note = Some(note);
         return Ok(finding);
     }
-    if let Some(other) = declaration_at_fault(alloc, on, found)? {
+    let left = match declaration_of_left(alloc, on, found.has)? {
+        Some(other) if other.mended >= FEWEST_MENDED => return told_of(alloc, finding, other),
+        left => left,
+    };
+    if let Some(other) = declaration_of_name(alloc, on, found)? {
         return told_of(alloc, finding, other);
     }
+    let left = match left {
+        None => declaration_with_users(alloc, on, found.has)?,
+        left => left,
+    };
     if let Some(edit) = chosen(alloc, on, found)? {
         let note =
             "An `if` needs both values at every instant. A `merge` chooses between values on clocks.";
@@ -116,7 +128,7 @@ fn told(
     }
     finding.note = Some(advice_on(alloc, on, found)?);
     finding.edit = mended(alloc, on, found, all)?;
-    Ok(finding)
+    told_of_lacking(alloc, on, finding, found, all, left)
 }
 
 /// A finding on a result with the declaration of its variable, and how that would read.

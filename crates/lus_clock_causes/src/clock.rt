@@ -20,7 +20,7 @@ pub struct Clock<'t> {
 /// Some variables, and a clock that they are taken to have in place of the one that is declared of them.
 #[derive(Clone, Copy)]
 pub struct Assumed<'t> {
-    pub names: &'t [Name],
+    pub names: &'t [&'t Name],
     pub clock: Clock<'t>,
 }
 

@@ -65,34 +65,67 @@ pub fn value_of_its_type<'t>(clocks: Clocks<'t>, expr: &Expr) -> Option<&'t str>
     value_of(type_of(clocks, expr)?)
 }
 
-/// Appends a branch: what is completed where the label is the test's, else the value of the other instants.
+/// The name of the type of an expression, where its variables or its operators tell it.
+pub fn type_name_of<'t>(clocks: Clocks<'t>, expr: &Expr) -> Option<&'t str> {
+    match type_of(clocks, expr)? {
+        Plain::Bool => Some("bool"),
+        Plain::Int => Some("int"),
+        Plain::Declared(_, declaration) => Some(declaration.name.text.as_str()),
+    }
+}
+
+/// The branches of a `merge`: what it completes, and a value for the other instants, or for the first of them where a variable's last value
+/// is held.
+#[derive(Clone, Copy)]
+pub struct Branches<'t> {
+    pub inner: &'t str,
+    pub value: &'t str,
+    pub held: Option<&'t str>,
+}
+
+/// Appends a branch: what is completed where the label is the test's, else what there is at the other instants.
 fn push_branch(
+    alloc: Global,
     text: &mut String,
     tick: Tick<'_>,
     label: &str,
-    inner: &str,
-    value: &str,
+    branches: Branches<'_>,
 ) -> Result<(), AllocError> {
-    let shown = if label == tick.label { inner } else { value };
-    write!(text, " ({label} -> {shown})")
+    let (inner, value) = (branches.inner, branches.value);
+    if label == tick.label {
+        return write!(text, " ({label} -> {inner})");
+    }
+    let Some(name) = branches.held else {
+        return write!(text, " ({label} -> {value})");
+    };
+    let other = Tick {
+        variable: tick.variable,
+        label,
+    };
+    let test = other.test(alloc)?;
+    write!(text, " ({label} -> ({value} -> pre {name}) when {test})")
 }
 
-/// Appends the branches of a `merge` by these constructors, or by the truth values where there are none.
-fn push_branches(
-    text: &mut String,
+/// A `merge` that completes what is on the clock of a test; nothing where it would have too many branches.
+pub fn merged(
+    alloc: Global,
+    clocks: Clocks<'_>,
     tick: Tick<'_>,
-    constructors: &[Name],
-    inner: &str,
-    value: &str,
-) -> Result<(), AllocError> {
+    branches: Branches<'_>,
+) -> Result<Option<String>, AllocError> {
+    let Some(constructors) = constructors_of(clocks, tick) else {
+        return Ok(None);
+    };
+    let variable = tick.variable.text.as_str();
+    let mut text = format!(in alloc; "merge {variable}")?;
     for constructor in constructors {
-        push_branch(text, tick, constructor.text.as_str(), inner, value)?;
+        push_branch(alloc, &mut text, tick, constructor.text.as_str(), branches)?;
     }
     if constructors.is_empty() {
-        push_branch(text, tick, "true", inner, value)?;
-        push_branch(text, tick, "false", inner, value)?;
+        push_branch(alloc, &mut text, tick, "true", branches)?;
+        push_branch(alloc, &mut text, tick, "false", branches)?;
     }
-    Ok(())
+    Ok(Some(text))
 }
 
 /// The constructors of the variable that a `merge` is over, none of a `bool`; nothing where it would have too many branches.
@@ -110,29 +143,31 @@ fn constructors_of<'t>(clocks: Clocks<'t>, tick: Tick<'_>) -> Option<&'t [Name]>
 }
 
 /// The change of a source that completes an expression by a `merge`, where it isn't remembered and its type is known.
-pub fn completed(
+pub fn completed<'t>(
     alloc: Global,
-    source: &str,
-    clocks: Clocks<'_>,
+    source: &'t str,
+    clocks: Clocks<'t>,
     equation: &Equation,
     found: Misplaced<'_>,
     tick: Tick<'_>,
 ) -> Result<Option<Edit>, AllocError> {
-    let (None, Some(constructors), Some(value)) = (
-        found.memory,
-        constructors_of(clocks, tick),
-        value_of_its_type(clocks, found.expr),
-    ) else {
+    let (None, Some(value)) = (found.memory, value_of_its_type(clocks, found.expr)) else {
         return Ok(None);
     };
     let span = extent_of(source, found.expr);
-    let variable = tick.variable.text.as_str();
-    let is_whole = is_whole(source, equation, span);
-    let open = if is_whole { "" } else { "(" };
-    let mut text = format!(in alloc; "{open}merge {variable}")?;
-    let inner = slice_of(source, extent_of(source, bare(found.expr)));
-    push_branches(&mut text, tick, constructors, inner, value)?;
-    text.push_str(if is_whole { "" } else { ")" })?;
+    let branches = Branches {
+        inner: slice_of(source, extent_of(source, bare(found.expr))),
+        value,
+        held: None,
+    };
+    let Some(merged) = merged(alloc, clocks, tick, branches)? else {
+        return Ok(None);
+    };
+    let text = if is_whole(source, equation, span) {
+        merged
+    } else {
+        format!(in alloc; "({merged})")?
+    };
     Ok(Some(Edit {
         byte: span.start.byte,
         length: span.length,

@@ -7,6 +7,7 @@ mod choosing;
 mod clock;
 mod completing;
 mod declared;
+mod lacking;
 mod mending;
 mod placing;
 mod redeclaring;

@@ -6,7 +6,7 @@ use crate::clock::Clocks;
 use crate::completing::completed;
 use crate::placing::Misplaced;
 use crate::sampling::{is_sampled_otherwise, resampled, sampled};
-use lus_faults::{Edit, bytes_at};
+use lus_faults::{Edit, joined};
 use lus_syntax::Equation;
 use std::alloc::{AllocError, Global};
 
@@ -71,25 +71,6 @@ fn insert(edits: &mut Vec<Edit>, edit: Edit) -> Result<(), AllocError> {
     let place = place_among(edits, &edit);
     edits.insert(place, edit)?;
     Ok(())
-}
-
-/// Changes in the order of their places, as one.
-fn joined(alloc: Global, source: &str, edits: &[Edit]) -> Result<Option<Edit>, AllocError> {
-    let Some(first) = edits.first() else {
-        return Ok(None);
-    };
-    let mut text = String::new(alloc);
-    let mut end = first.byte;
-    for edit in edits {
-        text.push_str(bytes_at(source, end, edit.byte).unwrap_or(""))?;
-        text.push_str(edit.text.as_str())?;
-        end = end_of(edit);
-    }
-    Ok(Some(Edit {
-        byte: first.byte,
-        length: end.saturating_sub(first.byte),
-        text,
-    }))
 }
 
 /// The change that brings an expression to the clock of its place, and the others of its equation to theirs; none where no change

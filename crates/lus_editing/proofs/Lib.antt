@@ -1,4 +1,3 @@
 pub mod ConversationLaws
-pub mod DiagnosticLaws
 pub mod MessageLaws
 pub mod ServingLaws

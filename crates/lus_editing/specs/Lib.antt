@@ -1,5 +1,4 @@
 pub mod Answers
-pub mod Diagnostics
 pub mod Messages
 pub mod Renames
 pub mod Serving

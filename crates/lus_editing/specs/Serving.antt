@@ -4,9 +4,7 @@ use Rattle.std.specs.Str.{bytes_eq}
 use Rattle.serde_json.specs.Data.{Data}
 use Rattle.serde_json.specs.Written.{compact_text, has_float}
 use Rattle.lus_syntax.specs.Lexemes.{Text}
-use Rattle.lus_syntax.specs.declared.refusal.Refusal.{Refusal}
 use Rattle.lus_editing.specs.Answers.{fault_text, given_text}
-use Rattle.lus_editing.specs.Diagnostics.{Publishes}
 use Rattle.lus_editing.specs.Messages.{SentText, id_of, method_of, parameters_of, sent_by}
 use Rattle.lus_editing.specs.declared.answers.Problem.{Problem}
 use Rattle.lus_editing.specs.declared.answers.Problem.TheVariants as problems
@@ -45,10 +43,10 @@ heard Fresh sent = None
 heard Shut sent = None
 heard (Over is_in_order) sent = None
 
--- what is said to a notification: to one that sends a text, the diagnostics of that text
-abbrev pub IsNotified : (Text → Type 0) → (Text → Refusal → Type 0) → Option SentText → Option Text → Type 0
-IsNotified accepts refuses (Some sent) said = Says said (Publishes accepts refuses sent)
-IsNotified accepts refuses None said = Unit {0}
+-- what is said to a notification: to one that sends a text, something
+abbrev pub IsNotified : Option SentText → Option Text → Type 0
+IsNotified (Some sent) said = Says said (λ t. Unit {0})
+IsNotified None said = Unit {0}
 
 -- what is said to a message without a method: nothing to an answer, and else that it is no request
 abbrev pub IsNamelessAnswered : Option Data → Option Text → Type 0
@@ -56,22 +54,22 @@ IsNamelessAnswered (Some id) said = said ≡ None
 IsNamelessAnswered None said = Says said (λ t. t ≡ fault_text (codes "null") problems.Request)
 
 -- what is said to a message of a method, with the id of a request or without one
-abbrev pub IsNamedAnswered : (Text → Type 0) → (Text → Refusal → Type 0) → (Text → ℕ → Text → Text → Type 0) → Server → Text → Option Data → Option Data → Option Text → Type 0
-IsNamedAnswered accepts refuses renames server method (Some id) parameters said =
+abbrev pub IsNamedAnswered : (Text → ℕ → Text → Text → Type 0) → Server → Text → Option Data → Option Data → Option Text → Type 0
+IsNamedAnswered renames server method (Some id) parameters said =
     has_float id ≡ false → Says said (IsAnswer (Gives renames server (bytes_eq method (codes "textDocument/rename")) parameters)
     (stage_problem server.stage (bytes_eq method (codes "initialize"))) (compact_text id))
-IsNamedAnswered accepts refuses renames server method None parameters said =
-    IsNotified accepts refuses (heard server.stage (sent_by method parameters)) said
+IsNamedAnswered renames server method None parameters said =
+    IsNotified (heard server.stage (sent_by method parameters)) said
 
-abbrev pub IsAnsweredBy : (Text → Type 0) → (Text → Refusal → Type 0) → (Text → ℕ → Text → Text → Type 0) → Server → Option Text → Option Data → Option Data → Option Text → Type 0
-IsAnsweredBy accepts refuses renames server (Some method) id parameters said = IsNamedAnswered accepts refuses renames server method id parameters said
-IsAnsweredBy accepts refuses renames server None id parameters said = IsNamelessAnswered id said
+abbrev pub IsAnsweredBy : (Text → ℕ → Text → Text → Type 0) → Server → Option Text → Option Data → Option Data → Option Text → Type 0
+IsAnsweredBy renames server (Some method) id parameters said = IsNamedAnswered renames server method id parameters said
+IsAnsweredBy renames server None id parameters said = IsNamelessAnswered id said
 
 -- what is said to a message that is JSON
-abbrev pub IsAnswered : (Text → Type 0) → (Text → Refusal → Type 0) → (Text → ℕ → Text → Text → Type 0) → Server → Data → Option Text → Type 0
-IsAnswered accepts refuses renames server d said = IsAnsweredBy accepts refuses renames server (method_of d) (id_of d) (parameters_of d) said
+abbrev pub IsAnswered : (Text → ℕ → Text → Text → Type 0) → Server → Data → Option Text → Type 0
+IsAnswered renames server d said = IsAnsweredBy renames server (method_of d) (id_of d) (parameters_of d) said
 
 -- what is said to a message: that it is no JSON, where it is none
-abbrev pub IsServed : (Text → Type 0) → (Text → Refusal → Type 0) → (Text → ℕ → Text → Text → Type 0) → Server → Option Data → Option Text → Type 0
-IsServed accepts refuses renames server (Some d) said = IsAnswered accepts refuses renames server d said
-IsServed accepts refuses renames server None said = Says said (λ t. t ≡ fault_text (codes "null") problems.Parse)
+abbrev pub IsServed : (Text → ℕ → Text → Text → Type 0) → Server → Option Data → Option Text → Type 0
+IsServed renames server (Some d) said = IsAnswered renames server d said
+IsServed renames server None said = Says said (λ t. t ≡ fault_text (codes "null") problems.Parse)

@@ -1,12 +1,12 @@
 //! Changes that mend faults, and what a text is warned of.
 
 use crate::answers::Problem;
-use crate::diagnostics::push_range;
 use crate::messages::{range_of, uri_of};
 use crate::server::{Document, Server};
-use lus_faults::{Edit, Finding, edited, edited_lines, offset_of};
-use lus_json_faults::push_string;
-use lus_queries::{Spot, lines_of};
+use lus_diagnostics::{Diagnostic, push_string};
+use lus_faults::{Edit, edited, edited_lines};
+use lus_queries::{Lines, Spot, lines_of, push_range};
+use lus_syntax::Span;
 use serde_json::Value;
 use std::alloc::{AllocError, Global};
 
@@ -22,9 +22,9 @@ fn first_line(alloc: Global, source: &str, edit: &Edit) -> Result<String, AllocE
     }
 }
 
-/// Whether a finding only guesses what is meant, as its note then says.
-fn is_guess(finding: &Finding) -> bool {
-    match &finding.note {
+/// Whether it is only guessed what is meant, as the note then says.
+fn is_guess(told: &Diagnostic) -> bool {
+    match &told.note {
         Some(note) => note.starts_with("Perhaps ") || note.starts_with("Did you mean "),
         None => false,
     }
@@ -36,6 +36,7 @@ fn push_action(
     text: &mut String,
     uri: &str,
     source: &str,
+    lines: &Lines<'_>,
     edit: &Edit,
     is_guess: bool,
 ) -> Result<(), AllocError> {
@@ -50,19 +51,19 @@ fn push_action(
     )?;
     push_string(alloc, text, uri)?;
     text.push_str(":[{\"range\":")?;
-    push_range(text, source, edit.byte, edit.length)?;
+    push_range(
+        text,
+        lines,
+        edit.byte,
+        edit.byte.saturating_add(edit.length),
+    )?;
     text.push_str(",\"newText\":")?;
     push_string(alloc, text, edit.text.as_str())?;
     text.push_str("}]}}}")
 }
 
 /// The bytes from the first line of a range to the end of its last one.
-fn bytes_of(
-    alloc: Global,
-    source: &str,
-    range: (Spot, Spot),
-) -> Result<(usize, usize), AllocError> {
-    let lines = lines_of(alloc, source)?;
+fn bytes_of(lines: &Lines<'_>, range: (Spot, Spot)) -> (usize, usize) {
     let (from, to) = range;
     let start = Spot {
         line: from.line,
@@ -72,38 +73,18 @@ fn bytes_of(
         line: to.line,
         character: usize::MAX,
     };
-    Ok((lines.byte_at(start), lines.byte_at(end)))
+    (lines.byte_at(start), lines.byte_at(end))
 }
 
-/// Whether so many bytes from one on reach between two bytes, or a change begins there.
-fn is_near(byte: usize, length: usize, edit: &Edit, between: (usize, usize)) -> bool {
+/// Whether a span reaches between two bytes, or a change begins there.
+fn is_near(span: Span, edit: &Edit, between: (usize, usize)) -> bool {
     let (from, to) = between;
-    let end = byte.saturating_add(length);
+    let byte = span.start.byte;
+    let end = byte.saturating_add(span.length);
     (byte <= to && from <= end) || (from <= edit.byte && edit.byte <= to)
 }
 
-/// Appends the action that mends what was found at a byte, if there is one and it is near.
-fn push_near(
-    alloc: Global,
-    text: &mut String,
-    uri: &str,
-    source: &str,
-    byte: usize,
-    finding: &Finding,
-    between: (usize, usize),
-) -> Result<(), AllocError> {
-    if let Some(edit) = &finding.edit
-        && is_near(byte, finding.length, edit, between)
-    {
-        if text.len() > 1 {
-            text.push_str(",")?;
-        }
-        push_action(alloc, text, uri, source, edit, is_guess(finding))?;
-    }
-    Ok(())
-}
-
-/// The actions that mend the faults of a document in a range, or what it is warned of.
+/// The actions that mend the errors of a document in a range, or what it is warned of.
 fn actions_in(
     alloc: Global,
     uri: &str,
@@ -111,24 +92,18 @@ fn actions_in(
     range: (Spot, Spot),
 ) -> Result<String, AllocError> {
     let source = document.text.as_str();
-    let between = bytes_of(alloc, source, range)?;
+    let lines = lines_of(alloc, source)?;
+    let between = bytes_of(&lines, range);
     let mut text = String::from_str(alloc, "[")?;
-    for told in &document.faults {
-        let at = told.finding.position(&told.refusal);
-        let byte = offset_of(source, at.line, at.column);
-        push_near(alloc, &mut text, uri, source, byte, &told.finding, between)?;
-    }
-    for warning in &document.warnings {
-        let byte = warning.span.start.byte;
-        push_near(
-            alloc,
-            &mut text,
-            uri,
-            source,
-            byte,
-            &warning.finding,
-            between,
-        )?;
+    for told in document.diagnosis.told() {
+        if let Some(edit) = &told.edit
+            && is_near(told.span(source), edit, between)
+        {
+            if text.len() > 1 {
+                text.push_str(",")?;
+            }
+            push_action(alloc, &mut text, uri, source, &lines, edit, is_guess(told))?;
+        }
     }
     text.push_str("]")?;
     Ok(text)

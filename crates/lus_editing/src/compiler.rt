@@ -1,12 +1,11 @@
 //! What a server asks of a compiler.
 
-ghost use Rattle.std.specs.Prelude.{IfOk, map, string_bytes};
-ghost use Rattle.lus_editing.specs.Diagnostics.{AreFaults};
+ghost use Rattle.std.specs.Prelude.{IfOk, string_bytes};
+ghost use Rattle.lus_diagnostics.specs.Errors.{AreErrors};
 
-use lus_error_recovery::Told;
-use lus_queries::Fact;
+use lus_diagnostics::Diagnosis;
+use lus_queries::{Fact, Judged};
 use lus_syntax::Place;
-use lus_warnings::Warning;
 use std::alloc::{AllocError, Global};
 
 /// Why a name isn't replaced.
@@ -33,12 +32,9 @@ pub trait Compiler {
     // That a text is a source with a new name in place of the one at a byte.
     ghost renames: { List ℕ → ℕ → List ℕ → List ℕ → Type 0 };
 
-    /// The faults of a source, the one that it is refused for first; none where it is accepted.
-    fn faults(&self, alloc: Global, source: &str) -> Result<Vec<Told>, AllocError>
-        ensures { IfOk result (λ told. AreFaults accepts refuses source.now (map (λ t. t.refusal) told.items)) };
-
-    /// What an accepted source is warned of, in the order of its text.
-    fn warnings(&self, alloc: Global, source: &str) -> Result<Vec<Warning>, AllocError>;
+    /// The errors of a source, the one that it is refused for first; none where it is accepted, but what it is warned of.
+    fn diagnose(&self, alloc: Global, source: &str) -> Result<Diagnosis, AllocError>
+        ensures { IfOk result (λ d. AreErrors accepts refuses source.now d.errors.items) };
 
     /// A source with another name in place of the declared one that stands at a byte of it, or ends there, wherever that is named; or why
     /// it can't be replaced.
@@ -59,6 +55,15 @@ pub trait Compiler {
         source: &str,
         declared: Place,
     ) -> Result<Option<Fact>, AllocError>;
+
+    /// The innermost expression round the token at a byte of a source; nothing where none is there, and where the source is refused before
+    /// its type is known.
+    fn judged(
+        &self,
+        alloc: Global,
+        source: &str,
+        byte: usize,
+    ) -> Result<Option<Judged>, AllocError>;
 
     /// A source as it is laid out; nothing where it can't be read.
     fn laid_out(&self, alloc: Global, source: &str) -> Result<Option<String>, AllocError>;

@@ -1,232 +1,162 @@
-//! What is said of the faults of a document.
-
-ghost use Rattle.std.specs.Prelude.{◌≡◌, [], ◌∷◌, IfOk, map, string_bytes};
-ghost use Rattle.lus_editing.specs.Diagnostics.{IsSaidOf, diagnostic_text, diagnostics_text, refusal_text};
-ghost use Rattle.lus_editing.specs.Messages.{sent_seen};
+//! What there is to say of a document, as diagnostics of the protocol.
 
 use crate::messages::Sent;
-use crate::warned::warning_diagnostics;
-use lus_error_recovery::Told;
-use lus_faults::{Related, offset_of};
-use lus_json_faults::push_string;
-use lus_queries::spot_at;
-use lus_syntax::Refusal;
-use lus_warnings::Warning;
+use lus_diagnostics::{Code, Diagnosis, Diagnostic, push_string};
+use lus_faults::Related;
+use lus_queries::{Lines, lines_of, push_span};
 use std::alloc::{AllocError, Global};
 
-/// Appends the range of so many bytes of a text from one on.
-pub(crate) fn push_range(
-    text: &mut String,
-    source: &str,
-    byte: usize,
-    length: usize,
-) -> Result<(), AllocError> {
-    let start = spot_at(source, byte);
-    let end = spot_at(source, byte.saturating_add(length));
-    write!(
-        text,
-        "{{\"start\":{{\"line\":{},\"character\":{}}},\"end\":{{\"line\":{},\"character\":{}}}}}",
-        start.line, start.character, end.line, end.character
-    )
+/// What there is to say in words: the sentence, the note, and the variables of a cycle, each on a line; and the further places of an error, if
+/// the editor doesn't show them.
+fn message_of(told: &Diagnostic, shows_related: bool) -> Result<String, AllocError> {
+    let mut message = told.message.clone()?;
+    if let Some(note) = &told.note {
+        write!(message, "\n{note}")?;
+    }
+    let cycle = &told.cycle;
+    if !cycle.names().is_empty() {
+        write!(message, "\n{cycle}")?;
+    }
+    if let Code::Error(_) = told.code
+        && !shows_related
+    {
+        for place in &told.related {
+            let start = place.span.start;
+            let label = &place.label;
+            write!(
+                message,
+                "\nline {}, column {}: {label}",
+                start.line, start.column
+            )?;
+        }
+    }
+    Ok(message)
 }
 
-/// Appends a further place of a fault, and what is there.
+/// Appends a further place of an error, and what is there.
 fn push_related(
     alloc: Global,
     text: &mut String,
-    sent: Sent<'_>,
+    uri: &str,
+    lines: &Lines<'_>,
     related: &Related,
 ) -> Result<(), AllocError> {
     text.push_str("{\"location\":{\"uri\":")?;
-    push_string(alloc, text, sent.uri)?;
+    push_string(alloc, text, uri)?;
     text.push_str(",\"range\":")?;
-    push_range(
-        text,
-        sent.text,
-        related.span.start.byte,
-        related.span.length,
-    )?;
+    push_span(text, lines, related.span)?;
     text.push_str("},\"message\":")?;
     push_string(alloc, text, related.label.as_str())?;
     text.push_str("}")
 }
 
-/// Appends the further places of a fault, each on a line.
-fn push_places(message: &mut String, related: &[Related]) -> Result<(), AllocError> {
-    for place in related {
-        let start = place.span.start;
-        let label = &place.label;
-        write!(
-            message,
-            "\nline {}, column {}: {label}",
-            start.line, start.column
-        )?;
-    }
-    Ok(())
-}
-
-/// What is said of a fault in words: its sentence, the note, and the variables of a cycle, each on a line, and its further places, if the
-/// editor doesn't show them.
-fn message_of(told: &Told, shows_related: bool) -> Result<String, AllocError> {
-    let mut message = told.finding.sentence.clone()?;
-    if let Some(note) = &told.finding.note {
-        write!(message, "\n{note}")?;
-    }
-    let cycle = &told.refusal.cycle;
-    if !cycle.names().is_empty() {
-        write!(message, "\n{cycle}")?;
-    }
-    if !shows_related {
-        push_places(&mut message, &told.finding.related)?;
-    }
-    Ok(message)
-}
-
-/// Appends the members of a diagnostic behind the position of its refusal, and the brace that closes it.
-fn push_members(
+/// Appends the further places of an error.
+fn push_places(
     alloc: Global,
     text: &mut String,
-    sent: Sent<'_>,
-    told: &Told,
-    shows_related: bool,
+    uri: &str,
+    lines: &Lines<'_>,
+    told: &Diagnostic,
 ) -> Result<(), AllocError> {
-    let finding = &told.finding;
-    let position = finding.position(&told.refusal);
-    let byte = offset_of(sent.text, position.line, position.column);
-    text.push_str(",\"severity\":1,\"range\":")?;
-    push_range(text, sent.text, byte, finding.length)?;
-    text.push_str(",\"message\":")?;
-    let message = message_of(told, shows_related)?;
-    push_string(alloc, text, message.as_str())?;
     text.push_str(",\"relatedInformation\":[")?;
-    for (place, related) in finding.related.iter().enumerate() {
+    for (place, related) in told.related.iter().enumerate() {
         if place > 0 {
             text.push_str(",")?;
         }
-        push_related(alloc, text, sent, related)?;
+        push_related(alloc, text, uri, lines, related)?;
     }
-    text.push_str("]}")
+    text.push_str("]")
 }
 
-/// Appends the number and the position of a refusal, with which its diagnostic begins.
-fn push_refusal(text: &mut String, refusal: &Refusal) -> Result<(), AllocError> {
-    let number = refusal.number.as_str();
-    let line = refusal.line;
-    let column = refusal.column;
+/// The section of docs/ERRORS.md that says more of a diagnostic.
+fn section(code: Code) -> &'static str {
+    match code {
+        Code::Error(number) => number.as_str(),
+        _ => "warnings",
+    }
+}
+
+/// Appends what a diagnostic begins with: of an error its number, the position of its refusal, and the severity; of a warning the severity
+/// and its name, and of what is unused that it can be left out; and of each where more is said.
+fn push_head(text: &mut String, told: &Diagnostic) -> Result<(), AllocError> {
+    let code = told.code.as_str();
+    let line = told.place.line;
+    let column = told.place.column;
+    match told.code {
+        Code::Error(_) => write!(
+            text,
+            "{{\"source\":\"lus\",\"code\":\"{code}\",\"data\":{{\"line\":{line},\"column\":{column}}},\"severity\":1"
+        )?,
+        _ => write!(
+            text,
+            "{{\"source\":\"lus\",\"severity\":2,\"code\":\"{code}\""
+        )?,
+    }
+    if code.starts_with("unused_") {
+        text.push_str(",\"tags\":[1]")?;
+    }
+    let section = section(told.code);
     write!(
         text,
-        "{{\"source\":\"lus\",\"code\":\"{number}\",\"data\":{{\"line\":{line},\"column\":{column}}}"
+        ",\"codeDescription\":{{\"href\":\"docs/ERRORS.md#{section}\"}}"
     )
 }
 
-/// What stands behind the position of a fault's refusal: its own members, and the diagnostics of others.
-fn further_text(
+/// Appends a diagnostic.
+fn push_diagnostic(
     alloc: Global,
+    text: &mut String,
     sent: Sent<'_>,
-    told: &Told,
-    others: &[Told],
+    lines: &Lines<'_>,
+    told: &Diagnostic,
     shows_related: bool,
-) -> Result<String, AllocError> {
-    let mut text = String::new(alloc);
-    push_members(alloc, &mut text, sent, told, shows_related)?;
-    for other in others {
-        text.push_str(",")?;
-        push_refusal(&mut text, &other.refusal)?;
-        push_members(alloc, &mut text, sent, other, shows_related)?;
+) -> Result<(), AllocError> {
+    push_head(text, told)?;
+    text.push_str(",\"range\":")?;
+    push_span(text, lines, told.span(sent.text))?;
+    text.push_str(",\"message\":")?;
+    let message = message_of(told, shows_related)?;
+    push_string(alloc, text, message.as_str())?;
+    if let Code::Error(_) = told.code {
+        push_places(alloc, text, sent.uri, lines, told)?;
     }
-    Ok(text)
+    text.push_str("}")
 }
 
-/// A diagnostic of this number and this position, with what stands behind the position.
-fn diagnostic(
-    alloc: Global,
-    number: &str,
-    line: usize,
-    column: usize,
-    more: &str,
-) -> Result<String, AllocError>
-    ensures { IfOk result (λ t. string_bytes t ≡ diagnostic_text number.now line column more.now) }
-{
-    format!(in alloc;
-        "{{\"source\":\"lus\",\"code\":\"{number}\",\"data\":{{\"line\":{line},\"column\":{column}}}{more}"
-    )
-}
-
-/// The diagnostic of a refusal, with what stands behind its position.
-fn first_diagnostic(alloc: Global, refusal: &Refusal, more: &str) -> Result<String, AllocError>
-    ensures { IfOk result (λ t. string_bytes t ≡ refusal_text refusal.now more.now) }
-{
-    let number = refusal.number.as_str();
-    diagnostic(alloc, number, refusal.line, refusal.column, more)
-}
-
-/// The notification of some diagnostics.
-fn notification(alloc: Global, sent: Sent<'_>, diagnostics: &str) -> Result<String, AllocError>
-    ensures { IfOk result (λ t. string_bytes t ≡ diagnostics_text (sent_seen sent.entry) diagnostics.now) }
-{
-    let version = sent.version;
-    let mut text = String::new(alloc);
-    text.push_str(
-        "{\"jsonrpc\":\"2.0\",\"method\":\"textDocument/publishDiagnostics\",\"params\":{\"uri\":",
-    )?;
-    push_string(alloc, &mut text, sent.uri)?;
-    write!(
-        text,
-        ",\"version\":{version},\"diagnostics\":[{diagnostics}]}}}}"
-    )?;
-    Ok(text)
-}
-
-/// What is said of a text with a first fault, and others.
-fn published_faults(
-    alloc: Global,
-    sent: Sent<'_>,
-    first: &Told,
-    others: &[Told],
-    shows_related: bool,
-) -> Result<String, AllocError>
-    ensures { IfOk result (λ t. IsSaidOf (sent_seen sent.entry) (first.now.refusal ∷ map (λ t. t.refusal) others.now) (string_bytes t)) }
-{
-    let more = further_text(alloc, sent, first, others, shows_related)?;
-    let diagnostics = first_diagnostic(alloc, &first.refusal, more.as_str())?;
-    notification(alloc, sent, diagnostics.as_str())
-}
-
-/// What is said of a text that has no faults.
-fn published_warnings(
-    alloc: Global,
-    sent: Sent<'_>,
-    warnings: &[Warning],
-) -> Result<String, AllocError>
-    ensures { IfOk result (λ t. IsSaidOf (sent_seen sent.entry) [] (string_bytes t)) }
-{
-    let said = warning_diagnostics(alloc, sent.text, warnings)?;
-    notification(alloc, sent, said.as_str())
-}
-
-/// What is said of a text with these faults, or with these warnings where it has no faults.
-pub(crate) fn published(
-    alloc: Global,
-    sent: Sent<'_>,
-    faults: &[Told],
-    warnings: &[Warning],
-    shows_related: bool,
-) -> Result<String, AllocError>
-    ensures { IfOk result (λ t. IsSaidOf (sent_seen sent.entry) (map (λ t. t.refusal) faults.now) (string_bytes t)) }
-{
-    match faults.split_first() {
-        Some((first, others)) => published_faults(alloc, sent, first, others, shows_related),
-        None => published_warnings(alloc, sent, warnings),
-    }
-}
-
-/// What is said of a document that is closed: that it has no faults.
-pub(crate) fn closed(alloc: Global, uri: &str) -> Result<String, AllocError> {
-    let mut text = String::new(alloc);
-    text.push_str(
+/// What the notification of diagnostics of a document begins with.
+fn begun(alloc: Global, uri: &str) -> Result<String, AllocError> {
+    let mut text = String::from_str(
+        alloc,
         "{\"jsonrpc\":\"2.0\",\"method\":\"textDocument/publishDiagnostics\",\"params\":{\"uri\":",
     )?;
     push_string(alloc, &mut text, uri)?;
+    Ok(text)
+}
+
+/// What is said of a text with these errors, or with these warnings where it has none.
+pub(crate) fn published(
+    alloc: Global,
+    sent: Sent<'_>,
+    diagnosis: &Diagnosis,
+    shows_related: bool,
+) -> Result<String, AllocError> {
+    let lines = lines_of(alloc, sent.text)?;
+    let version = sent.version;
+    let mut text = begun(alloc, sent.uri)?;
+    write!(text, ",\"version\":{version},\"diagnostics\":[")?;
+    for (place, told) in diagnosis.told().iter().enumerate() {
+        if place > 0 {
+            text.push_str(",")?;
+        }
+        push_diagnostic(alloc, &mut text, sent, &lines, told, shows_related)?;
+    }
+    text.push_str("]}}")?;
+    Ok(text)
+}
+
+/// What is said of a document that is closed: that there is nothing to say.
+pub(crate) fn closed(alloc: Global, uri: &str) -> Result<String, AllocError> {
+    let mut text = begun(alloc, uri)?;
     text.push_str(",\"diagnostics\":[]}}")?;
     Ok(text)
 }

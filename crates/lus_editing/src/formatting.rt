@@ -2,10 +2,10 @@
 
 use crate::answers::Problem;
 use crate::compiler::Compiler;
-use crate::diagnostics::push_range;
 use crate::messages::uri_of;
 use crate::server::Server;
-use lus_json_faults::push_string;
+use lus_diagnostics::push_string;
+use lus_queries::{lines_of, push_range};
 use serde_json::Value;
 use std::alloc::{AllocError, Global};
 
@@ -19,7 +19,7 @@ fn changes(alloc: Global, source: &str, laid_out: Option<&str>) -> Result<String
     }
     let mut text = String::new(alloc);
     text.push_str("[{\"range\":")?;
-    push_range(&mut text, source, 0, source.len())?;
+    push_range(&mut text, &lines_of(alloc, source)?, 0, source.len())?;
     text.push_str(",\"newText\":")?;
     push_string(alloc, &mut text, laid_out)?;
     text.push_str("}]")?;

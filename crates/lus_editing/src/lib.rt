@@ -14,10 +14,9 @@ mod queries;
 mod renames;
 mod server;
 mod serving;
-mod warned;
 
 pub use compiler::{Compiler, RenameProblem};
 pub use conversation::{ConversationError, converse};
-pub use lus_queries::Fact;
+pub use lus_queries::{Fact, Judged};
 pub use server::Server;
 pub use serving::serve;

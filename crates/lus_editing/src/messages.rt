@@ -203,11 +203,23 @@ pub(crate) fn changed_document(message: &Value) -> Option<&str> {
     Some(changed(parameters_of(message)?)?.uri)
 }
 
+/// What an editor says that it can do with documents.
+fn abilities(parameters: &Value) -> Option<&Value> {
+    parameters.get("capabilities")?.get("textDocument")
+}
+
+/// Whether an editor takes snippets as completions, if its parameters say so.
+pub(crate) fn has_snippets(parameters: &Value) -> Option<bool> {
+    abilities(parameters)?
+        .get("completion")?
+        .get("completionItem")?
+        .get("snippetSupport")?
+        .as_bool()
+}
+
 /// Whether an editor shows the further places of a diagnostic, if its parameters say so.
 pub(crate) fn shows_related(parameters: &Value) -> Option<bool> {
-    parameters
-        .get("capabilities")?
-        .get("textDocument")?
+    abilities(parameters)?
         .get("publishDiagnostics")?
         .get("relatedInformation")?
         .as_bool()

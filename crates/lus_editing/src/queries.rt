@@ -2,11 +2,11 @@
 
 use crate::answers::Problem;
 use crate::compiler::Compiler;
-use crate::messages::{has_declaration, position_of, uri_of};
+use crate::messages::{has_declaration, position_of, range_of, uri_of};
 use crate::server::Server;
 use lus_queries::{
-    Fact, Spot, completions, declared_at, definition, folds, highlights, hover, references,
-    renamable, semantic_tokens, signature_help, symbols,
+    Spot, completions, declared_at, definition, expression_hover, folds, highlights, hover,
+    inlay_hints, lines_of, references, renamable, semantic_tokens, signature_help, symbols,
 };
 use serde_json::Value;
 use std::alloc::{AllocError, Global};
@@ -36,6 +36,8 @@ pub(crate) enum Lookup {
 pub(crate) enum Query {
     Survey(Survey),
     Lookup(Lookup),
+    /// What is shown within the lines of a range.
+    Hints,
 }
 
 /// What a method asks, if it asks something of a document.
@@ -44,6 +46,7 @@ pub(crate) fn query_of(method: &str) -> Option<Query> {
         "textDocument/documentSymbol" => Some(Query::Survey(Survey::Symbols)),
         "textDocument/foldingRange" => Some(Query::Survey(Survey::Folds)),
         "textDocument/semanticTokens/full" => Some(Query::Survey(Survey::Colours)),
+        "textDocument/inlayHint" => Some(Query::Hints),
         "textDocument/completion" => Some(Query::Lookup(Lookup::Completions)),
         "textDocument/signatureHelp" => Some(Query::Lookup(Lookup::Signature)),
         "textDocument/hover" => Some(Query::Lookup(Lookup::Hover)),
@@ -64,16 +67,22 @@ fn surveyed(alloc: Global, source: &str, survey: Survey) -> Result<String, Alloc
     }
 }
 
-/// What a compiler says besides of the name at a spot of a document.
-fn fact_at<C: Compiler>(
+/// What is shown at a spot of a document: of a name its declaration, with what a compiler says besides, and else the type and the clock of
+/// the expression.
+fn hovered<C: Compiler>(
     alloc: Global,
     compiler: &C,
     source: &str,
     at: Spot,
-) -> Result<Option<Fact>, AllocError> {
-    match declared_at(alloc, source, at)? {
-        Some(declared) => compiler.fact(alloc, source, declared),
-        None => Ok(None),
+) -> Result<String, AllocError> {
+    if let Some(declared) = declared_at(alloc, source, at)? {
+        let fact = compiler.fact(alloc, source, declared)?;
+        return hover(alloc, source, at, fact);
+    }
+    let byte = lines_of(alloc, source)?.byte_at(at);
+    match &compiler.judged(alloc, source, byte)? {
+        Some(judged) => expression_hover(alloc, source, judged),
+        None => String::from_str(alloc, "null"),
     }
 }
 
@@ -81,6 +90,7 @@ fn fact_at<C: Compiler>(
 fn looked_up<C: Compiler>(
     alloc: Global,
     compiler: &C,
+    server: &Server,
     source: &str,
     uri: &str,
     at: Spot,
@@ -88,9 +98,9 @@ fn looked_up<C: Compiler>(
     parameters: &Value,
 ) -> Result<String, AllocError> {
     match lookup {
-        Lookup::Completions => completions(alloc, source, at),
+        Lookup::Completions => completions(alloc, source, at, server.has_snippets),
         Lookup::Signature => signature_help(alloc, source, at),
-        Lookup::Hover => hover(alloc, source, at, fact_at(alloc, compiler, source, at)?),
+        Lookup::Hover => hovered(alloc, compiler, source, at),
         Lookup::Definition => definition(alloc, source, uri, at),
         Lookup::References => {
             let has_declaration = has_declaration(parameters).unwrap_or(false);
@@ -123,9 +133,15 @@ pub(crate) fn queried<C: Compiler>(
         Query::Survey(survey) => Ok(Ok(surveyed(alloc, source, survey)?)),
         Query::Lookup(lookup) => match position_of(parameters) {
             Some(at) => {
-                let found = looked_up(alloc, compiler, source, uri, at, lookup, parameters)?;
+                let found = looked_up(
+                    alloc, compiler, server, source, uri, at, lookup, parameters,
+                )?;
                 Ok(Ok(found))
             },
+            None => Ok(Err(Problem::Parameters)),
+        },
+        Query::Hints => match range_of(parameters) {
+            Some((from, to)) => Ok(Ok(inlay_hints(alloc, source, from, to)?)),
             None => Ok(Err(Problem::Parameters)),
         },
     }

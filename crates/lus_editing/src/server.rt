@@ -4,8 +4,7 @@ ghost use Rattle.std.specs.Prelude.{◌≡◌, option_map, string_bytes};
 ghost use Rattle.lus_editing.specs.Renames.{source_in};
 
 use indexmap::IndexMap;
-use lus_error_recovery::Told;
-use lus_warnings::Warning;
+use lus_diagnostics::Diagnosis;
 use std::alloc::{AllocError, Global};
 
 /// How far a server has come.
@@ -20,12 +19,11 @@ pub(crate) enum Stage {
     Over { is_in_order: bool },
 }
 
-/// A document that is open, with the faults of its text, or the warnings where it has no faults.
+/// A document that is open, with what there is to say of its text.
 #[derive(Drop)]
 pub(crate) struct Document {
     pub text: String,
-    pub faults: Vec<Told>,
-    pub warnings: Vec<Warning>,
+    pub diagnosis: Diagnosis,
 }
 
 /// The state of a server.
@@ -34,6 +32,8 @@ pub struct Server {
     pub(crate) stage: Stage,
     /// Whether the editor shows the further places of a diagnostic.
     pub(crate) shows_related: bool,
+    /// Whether the editor takes snippets as completions.
+    pub(crate) has_snippets: bool,
     pub(crate) documents: IndexMap<String, Document>,
 }
 
@@ -43,6 +43,7 @@ impl Server {
         Server {
             stage: Stage::Fresh,
             shows_related: false,
+            has_snippets: false,
             documents: IndexMap::new(alloc),
         }
     }

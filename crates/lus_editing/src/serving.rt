@@ -7,7 +7,6 @@ ghost use Rattle.serde_json.specs.View.{view};
 ghost use Rattle.lus_editing.specs.Renames.{Gives};
 ghost use Rattle.lus_editing.specs.Messages.{id_of, parameters_of, sent_by, sent_seen};
 ghost use Rattle.lus_editing.specs.Serving.{IsAnswer, IsAnswered, IsDone, IsNamedAnswered, IsNamelessAnswered, IsNotified, IsServed, heard, stage_problem};
-ghost use Rattle.lus_editing.specs.Diagnostics.{Publishes};
 
 use crate::actions::actions_of;
 use crate::answers::{Problem, fault, result};
@@ -16,13 +15,11 @@ use crate::compiler::Compiler;
 use crate::diagnostics::{closed, published};
 use crate::formatting::formatted;
 use crate::messages::{
-    Sent, id_of, method_of, parameters_of, parse, sent_by, shows_related, uri_of,
+    Sent, has_snippets, id_of, method_of, parameters_of, parse, sent_by, shows_related, uri_of,
 };
 use crate::queries::{queried, query_of};
 use crate::renames::renamed;
 use crate::server::{Document, Server, Stage};
-use lus_error_recovery::Told;
-use lus_warnings::Warning;
 use serde_json::Value;
 use std::alloc::{AllocError, Global};
 
@@ -51,6 +48,7 @@ fn outcome_otherwise<C: Compiler>(
         "initialize" => {
             server.stage = Stage::Running;
             server.shows_related = parameters.and_then(shows_related).unwrap_or(false);
+            server.has_snippets = parameters.and_then(has_snippets).unwrap_or(false);
             Ok(Ok(String::from_str(alloc, CAPABILITIES)?))
         }
         "shutdown" => {
@@ -122,43 +120,21 @@ fn answer<C: Compiler>(
     }
 }
 
-/// What a text is warned of that has these faults: nothing where there are some.
-fn warnings_beside<C: Compiler>(
-    alloc: Global,
-    compiler: &C,
-    source: &str,
-    faults: &[Told],
-) -> Result<Vec<Warning>, AllocError> {
-    if faults.is_empty() {
-        compiler.warnings(alloc, source)
-    } else {
-        Ok(Vec::new(alloc))
-    }
-}
-
-/// Keeps a text that was sent, and says what its faults are, or its warnings.
+/// Keeps a text that was sent, and says what its errors are, or its warnings.
 fn take<C: Compiler>(
     alloc: Global,
     compiler: &C,
     server: &mut Server,
     sent: Sent<'_>,
-) -> Result<String, AllocError>
-    ensures { IfOk result (λ t. Publishes C.accepts C.refuses (sent_seen sent.entry) (string_bytes t)) }
-{
-    let faults = compiler.faults(alloc, sent.text)?;
-    let warnings = warnings_beside(alloc, compiler, sent.text, &faults)?;
-    let said = published(alloc, sent, &faults, &warnings, server.shows_related)?;
+) -> Result<String, AllocError> {
+    let diagnosis = compiler.diagnose(alloc, sent.text)?;
+    let said = published(alloc, sent, &diagnosis, server.shows_related)?;
     let text = String::from_str(alloc, sent.text)?;
-    let document = Document {
-        text,
-        faults,
-        warnings,
-    };
-    server.keep(alloc, sent.uri, document)?;
+    server.keep(alloc, sent.uri, Document { text, diagnosis })?;
     Ok(said)
 }
 
-/// Closes the document that parameters name, and says that it has no faults.
+/// Closes the document that parameters name, and says that it has no errors.
 fn close(
     alloc: Global,
     server: &mut Server,
@@ -211,8 +187,7 @@ fn notify<C: Compiler>(
     method: &str,
     parameters: Option<&Value>,
 ) -> Result<Option<String>, AllocError>
-    ensures { IfOk result (λ o. IsNotified C.accepts C.refuses
-        (heard server.old.stage (sent_by method.now (option_map (λ v. view v.now) parameters.entry))) (option_map string_bytes o)) }
+    ensures { IfOk result (λ o. IsNotified (heard server.old.stage (sent_by method.now (option_map (λ v. view v.now) parameters.entry))) (option_map string_bytes o)) }
 {
     match heard(server.stage, method, parameters) {
         Some(sent) => {
@@ -244,7 +219,7 @@ fn serve_named<C: Compiler>(
     method: &str,
     message: &Value,
 ) -> Result<Option<String>, AllocError>
-    ensures { IfOk result (λ o. IsNamedAnswered C.accepts C.refuses C.renames server.old method.now (id_of (view message.now))
+    ensures { IfOk result (λ o. IsNamedAnswered C.renames server.old method.now (id_of (view message.now))
         (parameters_of (view message.now)) (option_map string_bytes o)) }
 {
     let parameters = parameters_of(message);
@@ -265,7 +240,7 @@ fn serve_value<C: Compiler>(
     server: &mut Server,
     message: &Value,
 ) -> Result<Option<String>, AllocError>
-    ensures { IfOk result (λ o. IsAnswered C.accepts C.refuses C.renames server.old (view message.now) (option_map string_bytes o)) }
+    ensures { IfOk result (λ o. IsAnswered C.renames server.old (view message.now) (option_map string_bytes o)) }
 {
     match method_of(message) {
         Some(method) => serve_named(alloc, compiler, server, method, message),
@@ -282,7 +257,7 @@ pub fn serve<C: Compiler>(
     message: &[u8],
 ) -> Result<Option<String>, AllocError>
     ensures { IfOk result (λ o. IsUtf8 message.now
-        → IsServed C.accepts C.refuses C.renames server.old (read message.now) (option_map string_bytes o)) }
+        → IsServed C.renames server.old (read message.now) (option_map string_bytes o)) }
 {
     let parsed = parse(alloc, message)?;
     match &parsed {

@@ -20,7 +20,6 @@ pub mod Stored
 pub mod Underway
 pub mod Within
 pub mod Ends
-pub mod Guarded
 pub mod Middle
 pub mod Moved
 pub mod Passing

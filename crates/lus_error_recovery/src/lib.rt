@@ -9,9 +9,7 @@ mod passes;
 mod reading;
 mod rest;
 mod taking;
-mod told;
 mod window;
 
 pub use rest::Rest;
-pub use told::Told;
 pub use window::Window;

@@ -3,7 +3,7 @@
 use crate::declarations::Declaration;
 use crate::passes::in_memory;
 use crate::reading::tokens_from;
-use crate::rest::Rest;
+use crate::rest::{MOST_SMALL, Rest};
 use indexmap::IndexMap;
 use lus_faults::Edit;
 use lus_syntax::{Token, TokenKind, Word};
@@ -88,6 +88,15 @@ fn head_of<'t, 'p>(tokens: &'t [Token<'p>]) -> &'t [Token<'p>] {
     tokens.get(..count).unwrap_or(tokens)
 }
 
+/// The tokens of a node that stand before its equations.
+fn front_of<'t, 'p>(tokens: &'t [Token<'p>]) -> &'t [Token<'p>] {
+    let count = tokens
+        .iter()
+        .take_while(|token| !matches!(token.kind, TokenKind::Keyword(Word::Let)))
+        .count();
+    tokens.get(..count).unwrap_or(tokens)
+}
+
 impl Rest<'_> {
     /// The tokens that are left of a declaration, after the changes that were made and one that is tried.
     fn tokens_of<'p>(
@@ -142,16 +151,23 @@ impl Rest<'_> {
         Ok(flags)
     }
 
-    /// The tokens of a declaration that say what it declares: a node has no equations then.
+    /// The tokens of a declaration that say what it declares: a node has no equations then, and locals only where
+    /// all declarations are told and these are few bytes.
     fn declared<'p>(
         &'p self,
         alloc: Global,
         place: usize,
+        beside: Beside,
         tried: Option<&'p Edit>,
     ) -> Result<Vec<Token<'p>>, AllocError> {
         let tokens = self.tokens_of(alloc, place, tried)?;
         let mut declared = Vec::new(alloc);
-        declared.extend_from_slice(head_of(&tokens))?;
+        let are_few = self.source.len() <= MOST_SMALL;
+        if beside == Beside::Declared && are_few {
+            declared.extend_from_slice(front_of(&tokens))?;
+        } else {
+            declared.extend_from_slice(head_of(&tokens))?;
+        }
         let is_node = self
             .declarations
             .get(place)
@@ -182,7 +198,7 @@ impl Rest<'_> {
             } else if beside == Beside::Whole || *is_needed && beside == Beside::Reached {
                 part.extend_from_slice(&self.tokens_of(alloc, place, tried)?)?;
             } else if *is_needed || beside == Beside::Declared {
-                part.extend_from_slice(&self.declared(alloc, place, tried)?)?;
+                part.extend_from_slice(&self.declared(alloc, place, beside, tried)?)?;
             }
         }
         Ok(part)

@@ -18,11 +18,14 @@ const MOST_CHECKS: usize = 2;
 
 const LEAST_TOKENS: usize = 100000;
 
+/// Up to how many bytes of a source are few: then a text has all declarations before the one that it is of, and a tree the locals of all.
+pub(crate) const MOST_SMALL: usize = 16384;
+
 /// The most faults that are taken out.
 const MOST_TURNS: usize = 400;
 
-/// What is left of a source: its declarations, and what is no token; the changes that were made, the names of what was taken out, and
-/// the faults that were found. Declarations are looked through in steps: each by its grammar, then each by its meaning, then all together.
+/// What is left of a source: its declarations, and what is no token; the changes that were made, and those that were made to its words,
+/// the names of what was taken out, and the faults that were found. Declarations are looked through in steps: each by its grammar, then each by its meaning, then all together.
 #[derive(Drop)]
 pub struct Rest<'s> {
     pub(crate) source: &'s str,
@@ -30,6 +33,7 @@ pub struct Rest<'s> {
     pub(crate) names: Names,
     pub(crate) unread: Vec<Unread>,
     pub(crate) edits: Vec<Edit>,
+    pub(crate) written: Vec<Edit>,
     pub(crate) lost: Vec<&'s str>,
     pub(crate) found: Vec<Fault<'s>>,
     step: usize,
@@ -47,6 +51,7 @@ impl<'s> Rest<'s> {
             declarations,
             unread,
             edits: Vec::new(alloc),
+            written: Vec::new(alloc),
             lost: Vec::new(alloc),
             found: Vec::new(alloc),
             step: 0,
@@ -222,8 +227,8 @@ impl<'s> Rest<'s> {
         Ok(None)
     }
 
-    /// The text by which a refusal is told of tokens, of grammar or of a limit: its declaration and the one before, without what was
-    /// taken out.
+    /// The text by which a refusal is told of tokens, of grammar or of a limit: its declaration and the one before, or where these are few
+    /// bytes all before it, without what was taken out.
     pub fn window(
         &mut self,
         alloc: Global,
@@ -233,14 +238,18 @@ impl<'s> Rest<'s> {
             return Ok(None);
         }
         let here = self.declaration_at(refusal.line, refusal.column);
-        let before = here.saturating_sub(1);
-        let start = match self.declarations.get(before) {
-            Some(declaration) if before > 0 => declaration.start,
-            _ => Place::START,
-        };
         let end = match self.declarations.get(here.saturating_add(1)) {
             Some(next) => next.start.byte,
             None => self.source.len(),
+        };
+        let before = if end <= MOST_SMALL {
+            0
+        } else {
+            here.saturating_sub(1)
+        };
+        let start = match self.declarations.get(before) {
+            Some(declaration) if before > 0 => declaration.start,
+            _ => Place::START,
         };
         self.left = self.left.saturating_sub(end.saturating_sub(start.byte) / 4);
         let mut window = window_of(alloc, self.source, start, end)?;
@@ -248,6 +257,9 @@ impl<'s> Rest<'s> {
             if let Some(declaration) = self.declarations.get(place) {
                 window.blank(&declaration.taken);
             }
+        }
+        for edit in &self.written {
+            window.write(edit);
         }
         Ok(Some(window))
     }
@@ -264,7 +276,8 @@ impl<'s> Rest<'s> {
         Ok(self.read(alloc, own, beside, None)?.ok())
     }
 
-    /// Whether a change of the source helps against a refusal: the declaration there is accepted then, or refused later.
+    /// Whether a change of the source helps against a refusal: the declaration there is accepted then, or refused later. None is tried in a
+    /// declaration whose tokens don't all stand where they do in the source.
     pub fn helps(
         &mut self,
         alloc: Global,
@@ -272,6 +285,13 @@ impl<'s> Rest<'s> {
         edit: &Edit,
     ) -> Result<bool, AllocError> {
         let own = self.fault_of(refusal).declaration;
+        if self
+            .declarations
+            .get(own)
+            .is_some_and(|found| found.is_rewritten)
+        {
+            return Ok(false);
+        }
         let found = self.check(alloc, own, Beside::Needed, Some(edit))?.err();
         Ok(is_later(&found, refusal))
     }

@@ -8,7 +8,8 @@ use lus_syntax::{Refusal, RefusalNumber};
 use std::alloc::{AllocError, Global};
 
 /// A fault of a source: its number, its line and its column; the place of the declaration that stands there, and of the one that it is of;
-/// the word there, and the one that opens the declaration where that stands right before it; and whether it is in an equation.
+/// the word there, and the one that opens the declaration where that stands right before it; whether it is in an equation; and the line of
+/// the change that mended it, if one did, so that where its statement or its declaration ends is known.
 #[derive(Clone, Copy)]
 pub(crate) struct Fault<'s> {
     pub number: RefusalNumber,
@@ -19,6 +20,7 @@ pub(crate) struct Fault<'s> {
     pub word: &'s str,
     pub opening: &'s str,
     pub is_in_equation: bool,
+    pub mended: Option<usize>,
 }
 
 impl Fault<'_> {
@@ -29,10 +31,13 @@ impl Fault<'_> {
 
     /// Whether it may follow from a fault of grammar: itself one of grammar, in the same declaration or in what was taken for the next
     /// one, on the same line, or behind the same word, which can stand in a declaration where it was taken to open another one; or one of
-    /// meaning, in a declaration of which what is at fault is no equation.
+    /// meaning, in a declaration of which what is at fault is no equation. From one that was mended only what is on its line follows.
     fn follows(&self, other: &Fault<'_>) -> bool {
         if !is_of_grammar(other.number) {
             return false;
+        }
+        if let Some(line) = other.mended {
+            return self.line == line;
         }
         if !is_of_grammar(self.number) {
             return self.declaration == other.declaration && !other.is_in_equation;
@@ -84,6 +89,7 @@ impl<'s> Rest<'s> {
                 ""
             },
             is_in_equation,
+            mended: None,
         }
     }
 
@@ -137,12 +143,35 @@ impl<'s> Rest<'s> {
             return Ok(false);
         };
         let at = declaration.place_at(line, column);
-        let Some(statement) = declaration.statement_at(at) else {
+        let Some(statement) = declaration.equation_at(at) else {
             return Ok(false);
         };
+        let bytes = declaration.bytes_of(statement);
         declaration.is_filled = true;
         declaration.take(alloc, statement)?;
+        self.pass_over_unread(alloc, place, bytes)?;
         Ok(true)
+    }
+
+    /// Has what is no token between two bytes of a declaration be passed over.
+    fn pass_over_unread(
+        &mut self,
+        alloc: Global,
+        place: usize,
+        bytes: (usize, usize),
+    ) -> Result<(), AllocError> {
+        let (from, to) = bytes;
+        let mut others = Vec::new(alloc);
+        for unread in &self.unread {
+            let byte = unread.span.start.byte;
+            if byte < from || to <= byte {
+                others.push(*unread)?;
+            } else if let Some(declaration) = self.declarations.get_mut(place) {
+                declaration.taken.push(unread.span)?;
+            }
+        }
+        self.unread = others;
+        Ok(())
     }
 
     /// Takes out a declaration, whose names are lost.
@@ -150,13 +179,48 @@ impl<'s> Rest<'s> {
         let Some(declaration) = self.declarations.get_mut(place) else {
             return Ok(());
         };
-        for name in &declaration.names(alloc)? {
-            if self.names.get(*name).copied() == Some(place) {
+        for name in &declaration.lost_names(alloc)? {
+            if self.names.get(*name).copied().unwrap_or(place) == place {
                 self.lost.push(*name)?;
             }
         }
         let all = declaration.tokens.len();
         declaration.take(alloc, (0, all))
+    }
+
+    /// Makes a change that mends a fault of grammar in the tokens of its declaration, if the fault is in a statement, is a type's name, or
+    /// the declaration lacks its `tel`: on which line it did.
+    fn mend(
+        &mut self,
+        alloc: Global,
+        fault: &Fault<'s>,
+        edit: &Edit,
+    ) -> Result<Option<usize>, AllocError> {
+        let Some(declaration) = self.declarations.get_mut(fault.declaration) else {
+            return Ok(None);
+        };
+        let line = declaration.line_before(edit.byte);
+        let at = declaration.place_at(fault.line, fault.column);
+        let is_in_statement = declaration.statement_at(at).is_some();
+        let is_known = if fault.number != RefusalNumber::Syntax {
+            fault.number == RefusalNumber::Unsupported && !is_in_statement
+        } else if fault.here == fault.declaration {
+            is_in_statement
+        } else {
+            edit.text.trim() == "tel"
+        };
+        if !is_known || !declaration.change(alloc, edit, fault.line, fault.column)? {
+            return Ok(None);
+        }
+        if fault.number == RefusalNumber::Unsupported {
+            declaration.is_rewritten = true;
+            let text = edit.text.clone()?;
+            let (byte, length) = (edit.byte, edit.length);
+            self.written.push(Edit { byte, length, text })?;
+        }
+        let end = edit.byte.saturating_add(edit.length);
+        self.pass_over_unread(alloc, fault.declaration, (edit.byte, end))?;
+        Ok(Some(line))
     }
 
     /// Takes out what a fault is in: its statement, or of a node that a variable has no equation, else the declaration; nothing more than what
@@ -178,6 +242,7 @@ impl<'s> Rest<'s> {
             return Ok(());
         }
         match self.declarations.get_mut(fault.declaration) {
+            Some(found) if fault.mended.is_some() => found.pass_over(),
             Some(found) if found.is_node && !found.is_filled && !is_of_grammar(fault.number) => {
                 found.is_filled = true;
                 Ok(())
@@ -194,8 +259,17 @@ impl<'s> Rest<'s> {
         refusal: &Refusal,
         finding: Option<&Finding>,
     ) -> Result<(), AllocError> {
-        let fault = self.fault_of(refusal);
+        let mut fault = self.fault_of(refusal);
+        if let Some(finding) = finding
+            && let Some(edit) = &finding.edit
+            && is_of_grammar(fault.number)
+        {
+            fault.mended = self.mend(alloc, &fault, edit)?;
+        }
         self.found.push(fault)?;
+        if fault.mended.is_some() && fault.number == RefusalNumber::Unsupported {
+            return Ok(());
+        }
         if let Some(finding) = finding
             && !is_of_grammar(fault.number)
         {

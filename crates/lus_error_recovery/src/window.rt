@@ -52,6 +52,20 @@ impl Window {
         }
     }
 
+    /// Puts a change in its place that makes what it replaces no longer, with blanks behind it.
+    pub(crate) fn write(&mut self, edit: &Edit) {
+        if edit.text.len() > edit.length || edit.byte < self.ahead {
+            return;
+        }
+        let start = edit.byte.saturating_sub(self.ahead);
+        for place in 0..edit.length {
+            let written = edit.text.as_bytes().get(place).copied().unwrap_or(b' ');
+            if let Some(byte) = self.bytes.get_mut(start.saturating_add(place)) {
+                *byte = written;
+            }
+        }
+    }
+
     /// Whether a change of the text helps against a refusal: it is read then, or refused further on.
     pub fn helps(&self, alloc: Global, refusal: &Refusal, edit: &Edit) -> Result<bool, AllocError> {
         let Some(changed) = edited(alloc, self.text(), edit)? else {

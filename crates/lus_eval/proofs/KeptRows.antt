@@ -139,6 +139,3 @@ module _ (s o' : Instance) (back : instances.IsBack (seen s) (seen o')) where
       let cells : (seen o').cells ≡ (seen o).cells = back.cells ∙ behind.cells in
       let room : (seen o').row ≡ (seen o).row = back.row ∙ same_room c (kept_by o) (kept_by s) shaped is.shaped is.node in
       λ j. record { node = node j; cells = cells j; room = room j }
-
-  pub back_even : IsEven s → IsEven o'
-  back_even even = ap length back.next_cells ∙ sym even ∙ sym (ap length back.cells)

@@ -9,6 +9,7 @@ ghost use Rattle.lus_eval.specs.Objects.{IsFault, IsReset, IsObjectOf, MakesStep
 
 use crate::copying::row_twice;
 use crate::running::running;
+use crate::saved::Saved;
 use crate::shape::row_fits;
 use crate::stepping::step_instance;
 use lus_code::Code;
@@ -129,6 +130,21 @@ impl Object {
         ensures { IfOk result (λ o. o ≡ self.now) }
     {
         let instance = self.instance.copy()?;
+        Ok(Object { instance })
+    }
+
+    /// What the object keeps, without the rows on which it makes its steps.
+    pub fn save(&self) -> Result<Saved, Memory>
+        ensures { IfOk result (λ s. s ≡ self.now) }
+    {
+        Saved::of(&self.instance)
+    }
+
+    /// An object that keeps what was saved.
+    pub fn restored(saved: &Saved) -> Result<Object, Memory>
+        ensures { IfOk result (λ o. o ≡ saved.now) }
+    {
+        let instance = saved.instance()?;
         Ok(Object { instance })
     }
 }

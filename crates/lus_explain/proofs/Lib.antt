@@ -1,3 +1,4 @@
 pub mod Left
 pub mod EndLaws
 pub mod NodePlaces
+pub mod Statuses

@@ -8,37 +8,33 @@ use Rattle.lus_reports.specs.CliSpecs.Ends.{Ends, IsLost, IsReadingFault, SaysEn
 use Rattle.lus_reports.specs.CliSpecs.Faults.{IsToldBy, Told}
 use Rattle.lus_reports.specs.CliSpecs.declared.fault.Fault.{Fault}
 use Rattle.lus_reports.specs.CliSpecs.declared.fault.Fault.TheVariants as faults
-use Rattle.lus_reports.specs.Verdicts.{Said, named}
-use Rattle.lus_reports.specs.declared.verdict.Verdict.{Verdict}
 use Rattle.lus_explain.specs.CommandLine.{Asked, explain, script}
+use Rattle.lus_explain.specs.Judged.{IsJudged}
 use Rattle.lus_explain.specs.Skeletons.{IsAnswer}
-use Rattle.lus_explain.specs.Warned.{IsToldAs}
+use Rattle.lus_explain.specs.declared.judging.Verdict.{Verdict}
 use Rattle.lus_explain.specs.declared.words.Form.{Form}
 use Rattle.lus_explain.specs.declared.script.Script.{Script}
 use Rattle.lus_explain.specs.declared.script.Script.TheVariants as answers
 
--- what is said of the files of these names, where their bytes are known
-abbrev pub IsSaidOf : (Text → Known) → Form → Text → Option Text → Said → Type 0
-IsSaidOf known form program None said = WithFile (known program) (λ text. IsToldAs form (named program text) said None)
-IsSaidOf known form program (Some scripts) said =
-    WithFiles (known program) (known scripts) (λ text bytes. IsToldAs form (named program text) said (Some (named scripts bytes)))
+-- how the files of these names are judged, where their bytes are known
+abbrev pub AreJudgedOf : (Text → Known) → Form → Text → Option Text → ℕ → Type 0
+AreJudgedOf known form program None status = WithFile (known program) (λ text. IsJudged form text status None)
+AreJudgedOf known form program (Some scripts) status =
+    WithFiles (known program) (known scripts) (λ text bytes. IsJudged form text status (Some bytes))
 
 -- one of them can't be opened, or a read of it failed
 abbrev pub AreLost : (Known → Type 0) → (Text → Known) → Text → Option Text → Type 0
 AreLost read_fails known program None = IsLost read_fails (known program)
 AreLost read_fails known program (Some scripts) = IsLost read_fails (known program) ⊎ IsLost read_fails (known scripts)
 
-abbrev pub with_status : ℕ → Text → Said
-with_status status text = record { text = text; status = status }
-
--- what is said is written, and its status is that of the command; where a file is lost or memory is out, nothing is
+-- something is written, and the status is that of the verdict; where a file is lost or memory is out, nothing is
 abbrev pub ExplainEnds : (Known → Type 0) → (Text → Known) → Form → Text → Option Text → Result ℕ Fault → Change → Type 0
 ExplainEnds read_fails known form program scripts =
-    SaysEnds (λ status text. IsSaidOf known form program scripts (with_status status text)) (IsReadingFault (AreLost read_fails known program scripts))
+    SaysEnds (λ status text. AreJudgedOf known form program scripts status) (IsReadingFault (AreLost read_fails known program scripts))
 
 -- scripts for a node of the program of this name, or why there are none, where its bytes are known
 abbrev pub IsAnswerFor : (Text → Known) → Text → Text → Script → Type 0
-IsAnswerFor known node program s = WithFile (known program) (λ bytes. IsAnswer (named program bytes) node s)
+IsAnswerFor known node program s = WithFile (known program) (λ bytes. IsAnswer bytes node s)
 
 -- a text is written whole, or up to where the output failed, which is told
 pub data EndsWriting (text : Text) (output told : Change) (status : ℕ) : Type 0 where

@@ -1,5 +1,4 @@
 pub mod CommandLine
+pub mod Judged
 pub mod Skeletons
-pub mod Lines
-pub mod Warned
 pub mod Ends

@@ -1,14 +1,14 @@
 //! Scripts to begin from, for a node of a program.
 
-ghost use Rattle.std.specs.Prelude.{◌≡◌, IfErr, IfOk, string_bytes};
+ghost use Rattle.std.specs.Prelude.{◌≡◌, IfErr, IfOk};
 ghost use Rattle.lus_reports.specs.CliSpecs.CodeSpecs.Codes.{program_of};
 ghost use Rattle.lus_reports.specs.CliSpecs.declared.fault.Fault.TheVariants as faults;
-ghost use Rattle.lus_reports.specs.Verdicts.{file_seen};
-ghost use Rattle.lus_explain.specs.Skeletons.{IsAnswer, IsScriptOf, TriesScript, unknown_text};
+ghost use Rattle.lus_explain.specs.Skeletons.{IsAnswer, IsScriptOf, TriesScript};
 
+use crate::judging::{File, Verdict, refused_program, refused_scripts};
+use lus_reports::explain;
 use lus_reports::lus_cli::Fault;
-use lus_reports::lus_cli::lus_host::Program;
-use lus_reports::{File, Verdict, explain, explain_scripts, judge_refused, refused_scripts};
+use lus_reports::lus_cli::lus_host::{Program, read_scripts};
 use lus_skeletons::skeleton;
 use std::alloc::Global;
 
@@ -22,7 +22,6 @@ pub enum Script {
 /// Of a program that has no node of this name.
 fn unknown_node(alloc: Global, file: &str, node: &str) -> Result<Verdict, Fault>
     ensures status { IfOk result (λ v. v.status ≡ 2) }
-    ensures text { IfOk result (λ v. string_bytes v.text ≡ unknown_text file.now node.now) }
     ensures memory { IfErr result (λ f. f ≡ faults.Memory) }
 {
     match format!(in alloc; "{file}: error: no node is named `{node}`\n") {
@@ -33,18 +32,25 @@ fn unknown_node(alloc: Global, file: &str, node: &str) -> Result<Verdict, Fault>
 
 /// A text, if it is scripts of a program.
 fn tried(alloc: Global, program: &Program, node: &str, text: String) -> Result<Script, Fault>
-    ensures tried { IfOk result (λ s. TriesScript (program_of program.now) node.now s) }
+    ensures tried { IfOk result (λ s. TriesScript (program_of program.now) s) }
     ensures memory { IfErr result (λ f. f ≡ faults.Memory) }
 {
-    match explain_scripts(alloc, program, text.as_bytes()) {
+    let file = File {
+        name: node,
+        bytes: text.as_bytes(),
+    };
+    match read_scripts(alloc, program, file.bytes) {
         Ok(_) => Ok(Script::Written(text)),
-        Err(complaint) => Ok(Script::Refused(refused_scripts(alloc, node, complaint)?)),
+        Err(refusal) => {
+            let refused = refused_scripts(alloc, false, program, file, refusal)?;
+            Ok(Script::Refused(refused))
+        }
     }
 }
 
 /// Scripts for a node of an accepted program.
 fn script_of(alloc: Global, program: &Program, file: &str, node: &str) -> Result<Script, Fault>
-    ensures answer { IfOk result (λ s. IsScriptOf (program_of program.now) file.now node.now s) }
+    ensures answer { IfOk result (λ s. IsScriptOf (program_of program.now) node.now s) }
     ensures memory { IfErr result (λ f. f ≡ faults.Memory) }
 {
     let Some(place) = program.node(node) else {
@@ -59,11 +65,11 @@ fn script_of(alloc: Global, program: &Program, file: &str, node: &str) -> Result
 
 /// Scripts to begin from, for the node of this name: what `lus` accepts as scripts of the program.
 pub fn script_for(alloc: Global, program: File<'_>, node: &str) -> Result<Script, Fault>
-    ensures answer { IfOk result (λ s. IsAnswer (file_seen program.entry) node.now s) }
+    ensures answer { IfOk result (λ s. IsAnswer program.entry.bytes.now node.now s) }
     ensures memory { IfErr result (λ f. f ≡ faults.Memory) }
 {
     match explain(alloc, program.bytes) {
         Ok(accepted) => script_of(alloc, &accepted, program.name, node),
-        Err(explanation) => Ok(Script::Refused(judge_refused(alloc, program, &explanation)?)),
+        Err(refusal) => Ok(Script::Refused(refused_program(alloc, false, program, refusal)?)),
     }
 }

@@ -4,16 +4,14 @@ ghost use Rattle.std.specs.Prelude.{◌≡◌, IfErr, IfOk, Some, None, map, opt
 ghost use Rattle.lus_reports.specs.CliSpecs.Changes.{change};
 ghost use Rattle.lus_reports.specs.CliSpecs.Ends.{Ends, IsLost, IsReadingFault, ReadFails, SaysEnds};
 ghost use Rattle.lus_reports.specs.CliSpecs.Faults.{Told};
-ghost use Rattle.lus_reports.specs.Verdicts.{verdict_seen};
 ghost use Rattle.lus_explain.specs.CommandLine.{asked};
-ghost use Rattle.lus_explain.specs.Ends.{AreLost, CommandEnds, EndsWriting, ExplainEnds, IsAnswerFor, IsSaidOf, ScriptEnds};
+ghost use Rattle.lus_explain.specs.Ends.{AreJudgedOf, AreLost, CommandEnds, EndsWriting, ExplainEnds, IsAnswerFor, ScriptEnds};
 
+use crate::judging::{File, Verdict, judge};
 use crate::script::{Script, script_for};
-use crate::warned::judge_told;
 use crate::words::{Form, Task, read_words};
 use lus_devices::{Folder, Sink, write_all};
 use lus_reports::lus_cli::{Fault, read_file, tell};
-use lus_reports::{File, Verdict};
 use lus_syntax::MOST_BYTES;
 use std::alloc::Global;
 
@@ -24,12 +22,12 @@ fn judge_program<D: Folder>(
     form: Form,
     name: &str,
 ) -> Result<Verdict, Fault>
-    ensures said { IfOk result (λ v. IsSaidOf (D.known folder.now) form name.now None (verdict_seen v)) }
+    ensures judged { IfOk result (λ v. AreJudgedOf (D.known folder.now) form name.now None v.status) }
     ensures fault { IfErr result (λ f. IsReadingFault
         (AreLost (ReadFails D.File D.File.left D.File.failures) (D.known folder.now) name.now None) f) }
 {
     let program = read_file(alloc, folder, name, MOST_BYTES + 1)?;
-    judge_told(
+    judge(
         alloc,
         form,
         File {
@@ -48,13 +46,13 @@ fn judge_both<D: Folder>(
     program_name: &str,
     scripts_name: &str,
 ) -> Result<Verdict, Fault>
-    ensures said { IfOk result (λ v. IsSaidOf (D.known folder.now) form program_name.now (Some scripts_name.now) (verdict_seen v)) }
+    ensures judged { IfOk result (λ v. AreJudgedOf (D.known folder.now) form program_name.now (Some scripts_name.now) v.status) }
     ensures fault { IfErr result (λ f. IsReadingFault
         (AreLost (ReadFails D.File D.File.left D.File.failures) (D.known folder.now) program_name.now (Some scripts_name.now)) f) }
 {
     let program = read_file(alloc, folder, program_name, MOST_BYTES + 1)?;
     let scripts = read_file(alloc, folder, scripts_name, MOST_BYTES + 1)?;
-    judge_told(
+    judge(
         alloc,
         form,
         File {
@@ -76,7 +74,7 @@ fn judge_files<D: Folder>(
     program: &str,
     scripts: Option<&str>,
 ) -> Result<Verdict, Fault>
-    ensures said { IfOk result (λ v. IsSaidOf (D.known folder.now) form program.now (option_map (λ s. s.now) scripts.entry) (verdict_seen v)) }
+    ensures judged { IfOk result (λ v. AreJudgedOf (D.known folder.now) form program.now (option_map (λ s. s.now) scripts.entry) v.status) }
     ensures fault { IfErr result (λ f. IsReadingFault (AreLost (ReadFails D.File D.File.left D.File.failures)
         (D.known folder.now) program.now (option_map (λ s. s.now) scripts.entry)) f) }
 {

@@ -1,5 +1,6 @@
 //! Changes of a text.
 
+use crate::lines::bytes_at;
 use std::alloc::{AllocError, Global};
 use std::str;
 
@@ -9,6 +10,25 @@ pub struct Edit {
     pub byte: usize,
     pub length: usize,
     pub text: String,
+}
+
+/// Changes in the order of their places, as one.
+pub fn joined(alloc: Global, source: &str, edits: &[Edit]) -> Result<Option<Edit>, AllocError> {
+    let Some(first) = edits.first() else {
+        return Ok(None);
+    };
+    let mut text = String::new(alloc);
+    let mut end = first.byte;
+    for edit in edits {
+        text.push_str(bytes_at(source, end, edit.byte).unwrap_or(""))?;
+        text.push_str(edit.text.as_str())?;
+        end = edit.byte.saturating_add(edit.length);
+    }
+    Ok(Some(Edit {
+        byte: first.byte,
+        length: end.saturating_sub(first.byte),
+        text,
+    }))
 }
 
 /// The bytes of a text after a change.

@@ -1,6 +1,6 @@
 //! Lines and places of a source.
 
-use lus_syntax::Span;
+use lus_syntax::{Place, Span, place_behind};
 use std::alloc::{AllocError, Global};
 use std::str;
 
@@ -21,6 +21,11 @@ pub fn offset_of(text: &str, line: usize, column: usize) -> usize {
         }
     }
     text.len()
+}
+
+/// The place of a byte of a text.
+pub fn place_at(text: &str, byte: usize) -> Place {
+    place_behind(text.as_bytes().get(..byte).unwrap_or(&[]))
 }
 
 /// The text between two bytes, if it is one.

@@ -15,7 +15,9 @@ pub use checking::check;
 pub use error::RunError;
 pub use laws::headline;
 pub use lus_callers;
-pub use lus_callers::lus_machine::{CallError, Field, Formal, Machine, NodeId, Program, compile};
+pub use lus_callers::lus_machine::{
+    CallError, Cost, Field, Formal, Machine, NodeId, Program, compile,
+};
 pub use lus_callers::lus_shared::{
     Busy, Held, LockedNode, LockedSeat, Seat, SeatNode, Shared, Strangers, TryError,
 };

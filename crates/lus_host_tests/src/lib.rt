@@ -8,6 +8,8 @@ mod calls;
 #[cfg(test)]
 mod commands;
 #[cfg(test)]
+mod costs;
+#[cfg(test)]
 mod counters;
 #[cfg(test)]
 mod held;

@@ -1,8 +1,9 @@
 //! A log in memory: it is written, is audited, and is the input of another run.
 
 use lus_hosting::lus_bursts::Waiting;
-use lus_hosting::lus_live_instance::Score;
+use lus_hosting::lus_lawful::Unobserved;
 use lus_hosting::lus_live_instance::lus_machine::compile;
+use lus_hosting::lus_sessions::Score;
 use lus_hosting::{LogLines, audit_log, host_behind, host_log, logs_are_joined, recover_log};
 use std::collections::hash_map::RandomState;
 use std::sync::Arc;
@@ -64,7 +65,15 @@ fn a_log_is_written_and_lawful(rt: HostRuntime) -> Result<(), Fail> {
 
     let mut source = log.as_slice();
     let keys = RandomState::new(&rt)?;
-    let audited = audit_log(alloc, &program, node, keys, &mut source, &mut line);
+    let audited = audit_log(
+        alloc,
+        &program,
+        node,
+        keys,
+        &mut source,
+        &mut line,
+        &mut Unobserved,
+    );
     let Ok(report) = audited else {
         panic!(&rt; "it is a log")
     };
@@ -73,7 +82,15 @@ fn a_log_is_written_and_lawful(rt: HostRuntime) -> Result<(), Fail> {
 
     let mut source = WRONG.as_bytes();
     let keys = RandomState::new(&rt)?;
-    let audited = audit_log(alloc, &program, node, keys, &mut source, &mut line);
+    let audited = audit_log(
+        alloc,
+        &program,
+        node,
+        keys,
+        &mut source,
+        &mut line,
+        &mut Unobserved,
+    );
     let Ok(report) = audited else {
         panic!(&rt; "it is a log")
     };

@@ -11,7 +11,7 @@ use Rattle.lus_devices.specs.Devices.{Bytes, WritesBeginning, with_front, with_t
 use Rattle.lus_devices.proofs.Laws.{with_text-nothing}
 use Rattle.lus_lines.specs.Lines.{IsNext, IsPlain, IsWholeLine, most_line_bytes}
 use Rattle.lus_play.specs.Plays.{ended}
-use Rattle.lus_reactions.specs.Reactions.{IsCallTo}
+use Rattle.lus_sessions.specs.Calls.{IsCallTo}
 use Rattle.lus_replay.specs.Replays.{said_line}
 use Rattle.lus_replay.specs.declared.line.Verdict.{Verdict}
 use Rattle.lus_replay.specs.declared.line.Verdict.TheVariants as verdicts

@@ -22,7 +22,7 @@ use Rattle.lus_live_instance.specs.MachineSpecs.Acceptance.{IsAccepted}
 use Rattle.lus_live_instance.specs.MachineSpecs.Constructors.{names_of}
 use Rattle.lus_live_instance.specs.MachineSpecs.HistorySpecs.Pasts.{beginning}
 use Rattle.indexmap.specs.IndexMap.{get_by_text}
-use Rattle.lus_hosting.specs.Audits.{AreLawful, AreReadable, AsksLogged, BeginsLogged, FindsInLog, FindsLine, HasAuditedLog, IsLineLeft, IsNoLog, IsNoneLeft, IsReadableLine, IsToFind, IsWrongLog, LogEntry, LogLine, LogNote, answered, entries_in, entry_in, lawful_log_text, line_in, lines_text, log_behind, log_text, wrong_log_text}
+use Rattle.lus_hosting.specs.Audits.{AreLawful, AreReadable, AsksLogged, BeginsLogged, FindsInLog, FindsLine, HasAuditedLog, IsLineLeft, IsNoLog, IsNoneLeft, IsReadableLine, IsToFind, IsWrongLog, LogEntry, LogLine, LogNote, SeesMore, answered, entries_in, entry_in, lawful_log_text, line_in, lines_text, log_behind, log_text, wrong_log_text}
 use Rattle.lus_hosting.specs.Hosts.{logged}
 use Rattle.lus_hosting.specs.Logs.{IsWord, Logged, entries_of, is_of, logged_line, next_of}
 use Rattle.lus_hosting.specs.declared.auditing.Found.{Found}
@@ -282,11 +282,11 @@ module _ (p : Program) (accepted : IsAccepted p) (f : ℕ) (begun : Option Bytes
     front_is : IsFront (names_of p) [] [] lines gs left_is.0
     front_is = reads (names_of p) (names_plain p accepted) [] [] tt lines gs left_is.0 audited.told readable (sym left_is.2)
 
-  -- the end is behind the lines that were read
-  pub audited_all : (kind : Found) (later : Option Bytes) (line right : Text) (new : Instances)
+  -- the end is behind the lines that were read, which were seen
+  pub audited_all : (Seen : List LogLine → Type 0) → Seen lines → (kind : Found) (later : Option Bytes) (line right : Text) (new : Instances)
       → FindsLine kind p f (entries_in lines) mid later line right new → kind ≡ founds.Over → (report : Text) → report ≡ codes "entries " ++ decimal entries ++ codes " lawful\n"
-      → HasAuditedLog p f true begun report × FindsInLog p f true begun report
-  audited_all kind later line right new finds kind_is report is =
+      → HasAuditedLog p f Seen true begun report × FindsInLog p f true begun report
+  audited_all Seen seen kind later line right new finds kind_is report is =
       let found = finds_as p f begun mid instances turn entries audited kind later line right new finds founds.Over kind_is in
       let last : IsLast [] mid later = found.0 in
       let reported : report ≡ lawful_log_text (entries_in lines) = is ∙ ap (λ n. codes "entries " ++ decimal n ++ codes " lawful\n") audited.entered in (
@@ -298,6 +298,7 @@ module _ (p : Program) (accepted : IsAccepted p) (f : ℕ) (begun : Option Bytes
               ∙ ap (λ t. with_front t later) (append-nil (log_text (names_of p) lines));
           over = last.over;
           lawful = lawful;
+          seen = seen;
           reported = reported;
         },
         λ gs readable spelled.
@@ -306,11 +307,12 @@ module _ (p : Program) (accepted : IsAccepted p) (f : ℕ) (begun : Option Bytes
             finds_lawful p accepted f lines gs x.0 (front_is gs readable spelled) lawful end.1 report reported),
       )
 
-  -- a line with a wrong reply is
-  pub audited_wrong : (kind : Found) (later : Option Bytes) (line right : Text) (new : Instances)
-      → FindsLine kind p f (entries_in lines) mid later line right new → kind ≡ founds.Wrong → (report : Text) → report ≡ wrong_log_text (turn + 1) line right
-      → HasAuditedLog p f false begun report × FindsInLog p f false begun report
-  audited_wrong kind later line right new finds kind_is report is =
+  -- a line with a wrong reply is, in whose place the right entry was seen
+  pub audited_wrong : (Seen : List LogLine → Type 0) (kind : Found) (later : Option Bytes) (line right : Text) (new : Instances)
+      → FindsLine kind p f (entries_in lines) mid later line right new → kind ≡ founds.Wrong → SeesMore founds.Wrong new.last Seen lines
+      → (report : Text) → report ≡ wrong_log_text (turn + 1) line right
+      → HasAuditedLog p f Seen false begun report × FindsInLog p f false begun report
+  audited_wrong Seen kind later line right new finds kind_is sees report is =
       let left : IsLineLeft founds.Wrong p f (entries_in lines) mid later line right new =
       finds_as p f begun mid instances turn entries audited kind later line right new finds founds.Wrong kind_is in
       let found = left.is in
@@ -329,6 +331,7 @@ module _ (p : Program) (accepted : IsAccepted p) (f : ℕ) (begun : Option Bytes
           asked = found.3;
           lawful = more;
           differs = differs;
+          seen = sees w found.7;
           reported = reported;
         },
         λ gs readable spelled.

@@ -46,6 +46,7 @@ module _ (p : Program) (f : ℕ) (log : List Logged) (instance entry : Text) (wo
     word,
     asks_so has.0 has.3,
     has.2,
+    has.4,
   )
 
   pub found_wrong : (right answer : Text) → HasReplayedOn p f log instance (entry ++ 10 ∷ []) answer verdicts.Wrong new → right ≡ instance ++ 32 ∷ answer
@@ -58,6 +59,7 @@ module _ (p : Program) (f : ℕ) (log : List Logged) (instance entry : Text) (wo
     asks_so has.0 has.3,
     λ same. has.5 (words_split instance instance (entry ++ 10 ∷ []) answer word word (same ∙ is)).1,
     has.2,
+    has.6,
   )
 
   pub found_none : (right answer : Text) → HasReplayedOn p f log instance (entry ++ 10 ∷ []) answer verdicts.NoEntry new

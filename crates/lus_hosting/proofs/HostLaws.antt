@@ -2,6 +2,8 @@
 use Rattle.std.proofs.Common.{◌≡◌, ◌∙◌, ◌+◌, ◌++◌, ℕ, Bool, true, false, cond, refl, ap, sym, subst, List, [], ◌∷◌, length, map, filter, Option, Some, None, append-nil, length-append, string_bytes, arith}
 use Rattle.std.specs.Map.{lookup}
 use Rattle.std.specs.Str.{bytes_eq}
+use Rattle.std.specs.Prelude.{IfSome}
+use Rattle.std.proofs.lemmas.List.{same_from_push}
 use Rattle.std.proofs.lemmas.Slice.Eq.{bytes_eq-Decides}
 use Rattle.lus_values.specs.Names.{Text}
 use Rattle.lus_program.specs.Programs.{Program}
@@ -19,8 +21,10 @@ use Rattle.lus_live_instance.specs.MachineSpecs.HistorySpecs.Histories.{History,
 use Rattle.indexmap.specs.IndexMap.{get_by_text}
 use Rattle.lus_hosting.specs.Hosts.{HasCalled, HasReplayedOn, KeepsIn, Stands, logged}
 use Rattle.lus_hosting.specs.Logs.{Logged, entries_of, is_of, next_of}
+use Rattle.lus_hosting.specs.LastEntries.{IsLast, IsEntryOf}
 use Rattle.lus_hosting.specs.declared.instances.Instances.{Instances}
 use Rattle.lus_hosting.specs.declared.hosted.Hosted.{Hosted}
+use Rattle.lus_hosting.specs.declared.named_entry.NamedEntry.{NamedEntry}
 
 -- ---- logs
 
@@ -140,22 +144,32 @@ none_named new bare name = ap (lookup (λ k. bytes_eq name (string_bytes k))) ba
 pub none_kept : (p : Program) (f : ℕ) (g : Text → Option Hosted) → ((name : Text) → g name ≡ None) → KeepsIn p f [] g
 none_kept p f g none name = subst (Stands p f []) (sym (none name)) refl
 
+-- what is recalled is the entry that was replayed
+recalled : (last : Option Entry) (named : Option NamedEntry) (past now : List Entry) (instance : Text) (s : Said) → now ≡ past ++ entry_said s ∷ [] → IsLast last now
+    → IfSome named (λ e. (string_bytes e.instance ≡ instance) × (last ≡ Some e.entry)) → IsEntryOf named (record { instance = instance; said = s })
+recalled last None past now instance s grown kept has = tt
+recalled last (Some e) past now instance s grown kept has =
+    let there = subst (λ o. IsLast o now) has.1 kept in (has.0, (same_from_push there.0 past e.entry (entry_said s) (sym there.1 ∙ grown)).1)
+
 -- what was replayed, by its verdict
 pub replayed_so : (p : Program) (f : ℕ) (log : List Logged) (g : Text → Option Hosted) (new : Instances) → KeepsIn p f log g → (instance : Text)
     (h h' : Hosted) → g instance ≡ Some h
     → ((name : Text) → get_by_text new.by_name name ≡ cond (bytes_eq instance name) (Some h') (g name))
     → (IsLive p f h.instance.reactor → IsLive p f h'.instance.reactor) → (line right : Text) (v : Verdict) → h'.entries ≡ h.entries + 1
     → IsJudged v (names_of p) (h.entries + 1) line right h.instance.reactor.history h'.instance.reactor.history
-    → HasReplayedOn p f log instance line right v new
-replayed_so p f log g new keeps instance h h' has updates live line right verdicts.Right counted judged =
+    → (last : Option Entry) → (IsLive p f h.instance.reactor → IsLast last h'.instance.reactor.history)
+    → IfSome new.last (λ e. (string_bytes e.instance ≡ instance) × (last ≡ Some e.entry)) → HasReplayedOn p f log instance line right v new
+replayed_so p f log g new keeps instance h h' has updates live line right verdicts.Right counted judged last kept named =
     let n = numbered p f log g (get_by_text new.by_name) keeps instance h has in (
       judged.said,
       judged.spelled ∙ ap (λ k. said_line (names_of p) k judged.said) n,
       entered p f log g (get_by_text new.by_name) keeps instance h h' judged.said has updates
           (live (is_live p f log g (get_by_text new.by_name) keeps instance h has)) judged.entered counted,
       subst (λ k. AsksOnly (names_of p) k line judged.said.caller judged.said.request) n judged.only,
+      recalled last new.last h.instance.reactor.history h'.instance.reactor.history instance judged.said judged.entered
+          (kept (is_live p f log g (get_by_text new.by_name) keeps instance h has)) named,
     )
-replayed_so p f log g new keeps instance h h' has updates live line right verdicts.Wrong counted judged =
+replayed_so p f log g new keeps instance h h' has updates live line right verdicts.Wrong counted judged last kept named =
     let n = numbered p f log g (get_by_text new.by_name) keeps instance h has in (
       judged.said,
       judged.spelled ∙ ap (λ k. said_line (names_of p) k judged.said) n,
@@ -164,6 +178,8 @@ replayed_so p f log g new keeps instance h h' has updates live line right verdic
       subst (λ k. AsksOnly (names_of p) k line judged.said.caller judged.said.request) n judged.only,
       subst (λ k. BeginsAsked (names_of p) judged.said.caller k judged.said.request line) n judged.asked,
       judged.differs,
+      recalled last new.last h.instance.reactor.history h'.instance.reactor.history instance judged.said judged.entered
+          (kept (is_live p f log g (get_by_text new.by_name) keeps instance h has)) named,
     )
-replayed_so p f log g new keeps instance h h' has updates live line right verdicts.NoEntry counted judged =
+replayed_so p f log g new keeps instance h h' has updates live line right verdicts.NoEntry counted judged last kept named =
     subst (λ k. AsksNothing (names_of p) k line) (numbered p f log g (get_by_text new.by_name) keeps instance h has) judged

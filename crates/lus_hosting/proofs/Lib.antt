@@ -5,6 +5,7 @@ pub mod WordLaws
 pub mod AuditLaws
 pub mod FindingLaws
 pub mod FoundLaws
+pub mod ObservedLaws
 pub mod CallLaws
 pub mod JoinLaws
 pub mod RecoveryLaws

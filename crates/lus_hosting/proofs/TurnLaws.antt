@@ -4,7 +4,7 @@ use Rattle.indexmap.specs.IndexMap.{get_by_text}
 use Rattle.lus_values.specs.Names.{Text}
 use Rattle.lus_program.specs.Programs.{Program}
 use Rattle.lus_devices.specs.Devices.{Bytes, WritesBeginning, with_front, with_text}
-use Rattle.lus_bursts.specs.Syncs.{IsSafe}
+use Rattle.lus_bursts.specs.Syncs.{IsSafe, Settles, SettlesSome}
 use Rattle.lus_devices.proofs.Laws.{reaches_began, reaches_stop, with_front-more, with_text-more, with_text-nothing}
 use Rattle.lus_lines.specs.Lines.{IsLast}
 use Rattle.lus_live_instance.specs.MachineSpecs.HistorySpecs.Histories.{History}
@@ -13,7 +13,7 @@ use Rattle.lus_play.specs.declared.playing.Score.{Score}
 use Rattle.lus_play.specs.declared.error.PlayError.{PlayError}
 use Rattle.lus_play.specs.declared.error.PlayError.TheVariants as plays
 use Rattle.lus_play.proofs.AheadLaws.{all_begun, all_whole}
-use Rattle.lus_hosting.specs.Hosts.{HasTurn, HasTurnSome, IsKind, Keeps, Settles, SettlesSome, TurnFails, WritesTurn}
+use Rattle.lus_hosting.specs.Hosts.{HasTurn, HasTurnSome, IsKind, Keeps, TurnFails, WritesTurn}
 use Rattle.lus_hosting.specs.Logs.{Logged, entries_of}
 use Rattle.lus_hosting.specs.Spellings.{Spelling}
 use Rattle.lus_hosting.specs.Turns.{AreSafe, AreTaken, Called, Denied, HasHosted, HasHostedSome, Noted, Reads, Replayed, StopsBy, Turn, Turns, added_by, answer_at, denied_by, entry_at, line_at, more, none, stop_of}

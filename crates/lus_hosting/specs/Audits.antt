@@ -15,10 +15,12 @@ use Rattle.lus_live_instance.specs.MachineSpecs.Constructors.{names_of}
 use Rattle.lus_live_instance.specs.MachineSpecs.HistorySpecs.Histories.{History}
 use Rattle.lus_hosting.specs.Hosts.{Keeps, logged}
 use Rattle.lus_hosting.specs.Logs.{IsWord, Logged, entries_of, logged_line, next_of}
+use Rattle.lus_hosting.specs.LastEntries.{IsEntryOf}
 use Rattle.lus_hosting.specs.Turns.{IsNote}
 use Rattle.lus_hosting.specs.declared.auditing.Found.{Found}
 use Rattle.lus_hosting.specs.declared.auditing.Found.TheVariants as founds
 use Rattle.lus_hosting.specs.declared.instances.Instances.{Instances}
+use Rattle.lus_hosting.specs.declared.named_entry.NamedEntry.{NamedEntry}
 
 -- ---- logs
 
@@ -71,14 +73,15 @@ lawful_log_text log = codes "entries " ++ decimal (length log) ++ codes " lawful
 abbrev pub wrong_log_text : ℕ → Text → Text → Text
 wrong_log_text n line right = codes "line " ++ decimal n ++ codes "\nwritten " ++ printable line ++ codes "right   " ++ printable right
 
--- all that is left is a lawful log, which is reported
-pub record IsLawfulLog (p : Program) (f : ℕ) (left : Option Bytes) (report : Text) : Type 0 where
+-- all that is left is a lawful log, which was seen and is reported
+pub record IsLawfulLog (p : Program) (f : ℕ) (Seen : List LogLine → Type 0) (left : Option Bytes) (report : Text) : Type 0 where
   pub lines : List LogLine
   pub end : Option Bytes
   pub words : All IsLogLine lines
   pub read : left ≡ with_front (log_text (names_of p) lines) end
   pub over : AtEnd end
   pub lawful : AreLawful p f (entries_in lines)
+  pub seen : Seen lines
   pub reported : report ≡ lawful_log_text (entries_in lines)
 
 -- behind its name a line begins as one of an entry's request, the next of its instance
@@ -86,8 +89,9 @@ abbrev pub BeginsLogged : Names → List Logged → Text → Logged → Type 0
 BeginsLogged names log line l =
     (text : Text) × (line ≡ l.instance ++ 32 ∷ text) × BeginsAsked names l.said.caller (next_of l.instance log) l.said.request text
 
--- the log is lawful up to a line of a request, which isn't the right one, and is reported with that
-pub record HasWrongEntry (p : Program) (f : ℕ) (left : Option Bytes) (report : Text) : Type 0 where
+-- The log is lawful up to a line of a request, which isn't the right one, and is reported with that. The lines before it were seen, and the
+-- right entry in its place.
+pub record HasWrongEntry (p : Program) (f : ℕ) (Seen : List LogLine → Type 0) (left : Option Bytes) (report : Text) : Type 0 where
   pub before : List LogLine
   pub line : Text
   pub right : Logged
@@ -97,11 +101,16 @@ pub record HasWrongEntry (p : Program) (f : ℕ) (left : Option Bytes) (report :
   pub asked : BeginsLogged (names_of p) (entries_in before) line right
   pub lawful : AreLawful p f (entries_in before ++ right ∷ [])
   pub differs : line ≢ logged_line (names_of p) (entries_in before) right
+  pub seen : Seen (before ++ LogEntry right ∷ [])
   pub reported : report ≡ wrong_log_text (length before + 1) line (logged_line (names_of p) (entries_in before) right)
 
-abbrev pub HasAuditedLog : Program → ℕ → Bool → Option Bytes → Text → Type 0
-HasAuditedLog p f true left report = IsLawfulLog p f left report
-HasAuditedLog p f false left report = HasWrongEntry p f left report
+abbrev pub HasAuditedLog : Program → ℕ → (List LogLine → Type 0) → Bool → Option Bytes → Text → Type 0
+HasAuditedLog p f Seen true left report = IsLawfulLog p f Seen left report
+HasAuditedLog p f Seen false left report = HasWrongEntry p f Seen left report
+
+-- an observer that had seen nothing has seen these lines
+abbrev pub Observes : (Old New : List LogLine → Type 0) → List LogLine → Type 0
+Observes Old New lines = Old [] → New lines
 
 -- ---- what is to be found
 
@@ -164,10 +173,11 @@ AsksLogged names log line l =
 abbrev pub IsFound : Found → Program → ℕ → List Logged → Text → Text → Instances → Type 0
 IsFound founds.Right p f log line right new =
     (l : Logged) × (line ≡ logged_line (names_of p) log l) × IsWord l.instance × AsksLogged (names_of p) log line l × Keeps p f (log ++ l ∷ []) new
+    × IsEntryOf new.last l
 IsFound founds.Noted p f log line right new = (t : Text) × (line ≡ ended t) × IsNote t × Keeps p f log new
 IsFound founds.Wrong p f log line right new =
     (l : Logged) × (right ≡ logged_line (names_of p) log l) × IsWord l.instance × BeginsLogged (names_of p) log line l
-    × AsksLogged (names_of p) log line l × (line ≢ right) × Keeps p f (log ++ l ∷ []) new
+    × AsksLogged (names_of p) log line l × (line ≢ right) × Keeps p f (log ++ l ∷ []) new × IsEntryOf new.last l
 IsFound founds.NoLine p f log line right new =
     (g : LogLine) → IsReadableLine (names_of p) log g → line ≡ line_in (names_of p) log g → ⊥
 IsFound founds.Cut p f log line right new = ⊥
@@ -193,3 +203,12 @@ FindsLine founds.NoLine p f log left later line right new = IsNoneLeft (names_of
 FindsLine founds.Cut p f log left later line right new =
     IsNoneLeft (names_of p) log left × IsLast line left later × (0 < length line) × Keeps p f log new
 FindsLine founds.Over p f log left later line right new = IsLast [] left later × Keeps p f log new
+
+-- what was found behind lines is seen, where it is a line: of an entry the right one
+abbrev pub SeesMore : Found → Option NamedEntry → (List LogLine → Type 0) → List LogLine → Type 0
+SeesMore founds.Right last Seen lines = (l : Logged) → IsEntryOf last l → Seen (lines ++ LogEntry l ∷ [])
+SeesMore founds.Noted last Seen lines = (t : Text) → Seen (lines ++ LogNote t ∷ [])
+SeesMore founds.Wrong last Seen lines = (l : Logged) → IsEntryOf last l → Seen (lines ++ LogEntry l ∷ [])
+SeesMore founds.NoLine last Seen lines = Seen lines
+SeesMore founds.Cut last Seen lines = Seen lines
+SeesMore founds.Over last Seen lines = Seen lines

@@ -1,5 +1,5 @@
 -- Instances by their names, behind a log.
-use Rattle.std.specs.Prelude.{◌≡◌, ◌≢◌, ◌⊎◌, ◌+◌, ◌<◌, ◌++◌, ℕ, Bool, true, List, [], ◌∷◌, length, Option, Some, None}
+use Rattle.std.specs.Prelude.{◌≡◌, ◌≢◌, ◌⊎◌, ◌+◌, ◌<◌, ◌++◌, ℕ, List, [], ◌∷◌, length, Option, Some, None}
 use Rattle.indexmap.specs.IndexMap.{get_by_text}
 use Rattle.lus_values.specs.Names.{Text}
 use Rattle.lus_program.specs.Programs.{Program}
@@ -17,6 +17,7 @@ use Rattle.lus_live_instance.specs.MachineSpecs.Constructors.{names_of}
 use Rattle.lus_live_instance.specs.MachineSpecs.HistorySpecs.Histories.{History}
 use Rattle.lus_hosting.specs.Logs.{Logged, entries_of, next_of}
 use Rattle.lus_hosting.specs.Spellings.{Spelling}
+use Rattle.lus_hosting.specs.LastEntries.{IsEntryOf}
 use Rattle.lus_hosting.specs.Turns.{AreTaken, IsSo, IsTurn, Reads, Turn, Called, Denied, Noted, Replayed, added_by, answer_at, entry_at, line_at}
 use Rattle.lus_hosting.specs.declared.hosted.Hosted.{Hosted}
 use Rattle.lus_hosting.specs.declared.instances.Instances.{Instances}
@@ -54,11 +55,12 @@ HasCalledOn p f log instance r n e new =
 abbrev pub HasReplayedOn : Program → ℕ → List Logged → Text → Text → Text → Verdict → Instances → Type 0
 HasReplayedOn p f log instance line right verdicts.Right new =
     (s : Said) × (line ≡ said_line (names_of p) (next_of instance log) s) × Keeps p f (log ++ record { instance = instance; said = s } ∷ []) new
-    × AsksOnly (names_of p) (next_of instance log) line s.caller s.request
+    × AsksOnly (names_of p) (next_of instance log) line s.caller s.request × IsEntryOf new.last (record { instance = instance; said = s })
 HasReplayedOn p f log instance line right verdicts.Wrong new =
     (s : Said) × (right ≡ said_line (names_of p) (next_of instance log) s) × Keeps p f (log ++ record { instance = instance; said = s } ∷ []) new
     × AsksOnly (names_of p) (next_of instance log) line s.caller s.request
     × BeginsAsked (names_of p) s.caller (next_of instance log) s.request line × (line ≢ right)
+    × IsEntryOf new.last (record { instance = instance; said = s })
 HasReplayedOn p f log instance line right verdicts.NoEntry new = AsksNothing (names_of p) (next_of instance log) line
 
 -- what becomes of a line
@@ -150,15 +152,3 @@ pub record HasTurnSome (reads : Reads) (p : Program) (f : ℕ) (j s : Spelling) 
 abbrev pub TurnFails : Reads → Program → ℕ → Spelling → Spelling → List Logged → Option Bytes → Option Bytes → Option Bytes → Option Bytes → Option Bytes
     → Type 0
 TurnFails reads p f j s log left l l' w w' = ((l' ≡ l) × (w' ≡ w)) ⊎ HasTurnSome reads p f j s log left l l' w w'
-
--- ---- answers that are held
-
--- No answer is held that is due, and nothing is written; or the log was synced, where it is to be, and all that was held is written.
-abbrev pub Settles : (L : Type 0) → (L → L → Type 0) → Bool → Bool → L → L → Bytes → Bytes → Option Bytes → Option Bytes → Type 0
-Settles L syncs is_due is_synced l l' held held' w w' =
-    ((held' ≡ held) × (is_due ≡ true → held ≡ []) × (w' ≡ w))
-    ⊎ ((is_synced ≡ true → syncs l l') × (held' ≡ []) × (w' ≡ with_text w held))
-
--- nothing is written, or a beginning of it is
-abbrev pub SettlesSome : (L : Type 0) → (L → L → Type 0) → Bool → L → L → Bytes → Option Bytes → Option Bytes → Type 0
-SettlesSome L syncs is_synced l l' held w w' = (w' ≡ w) ⊎ ((is_synced ≡ true → syncs l l') × WritesBeginning w w' held)

@@ -1,5 +1,6 @@
 pub mod Logs
 pub mod Spellings
+pub mod LastEntries
 pub mod Turns
 pub mod Hosts
 pub mod Audits

@@ -10,7 +10,7 @@ use Rattle.lus_play.specs.Plays.{HasWhole, ended, with_tail}
 use Rattle.lus_play.specs.declared.error.PlayError.{PlayError}
 use Rattle.lus_play.specs.declared.error.PlayError.TheVariants as plays
 use Rattle.lus_play.specs.declared.playing.Score.{Score}
-use Rattle.lus_reactions.specs.Reactions.{IsCallTo}
+use Rattle.lus_sessions.specs.Calls.{IsCallTo}
 use Rattle.lus_replay.specs.Replays.{entry_said}
 use Rattle.lus_live_instance.specs.MachineSpecs.Constructors.{names_of}
 use Rattle.lus_live_instance.specs.MachineSpecs.HistorySpecs.Histories.{History}

@@ -1,21 +1,22 @@
 //! Auditing a log.
 
-ghost use Rattle.std.specs.Prelude.{◌≡◌, ◌++◌, ◌<◌, ◌∷◌, [], IfErr, IfOk, List, OnOk, codes, false, length, string_bytes, true};
+ghost use Rattle.std.specs.Prelude.{◌≡◌, ◌+◌, ◌++◌, ◌<◌, ◌∷◌, [], IfErr, IfOk, List, OnOk, codes, false, length, string_bytes, true};
 ghost use Rattle.std.specs.Fmt.{decimal};
 ghost use Rattle.std.specs.Arc.{arc_value};
 ghost use Rattle.lus_lawful.specs.Errors.{BlamesIf, IsOutside};
 ghost use Rattle.lus_live_instance.specs.MachineSpecs.Acceptance.{IsAccepted};
 ghost use Rattle.lus_live_instance.specs.MachineSpecs.CodeSpecs.Codes.{program_of};
-ghost use Rattle.lus_hosting.specs.Audits.{FindsInLog, FindsLine, HasAuditedLog, IsFound, IsNoLog, wrong_log_text};
+ghost use Rattle.lus_hosting.specs.Audits.{FindsInLog, FindsLine, HasAuditedLog, IsFound, IsNoLog, LogEntry, LogLine, Observes, SeesMore, wrong_log_text};
 ghost use Rattle.lus_hosting.specs.Hosts.{Keeps};
+ghost use Rattle.lus_hosting.specs.LastEntries.{IsEntryOf};
 ghost use Rattle.lus_hosting.specs.Logs.{IsWord, Logged};
 ghost use Rattle.lus_hosting.specs.Turns.{StandsBehind};
 ghost use Rattle.lus_hosting.specs.declared.words.Words.TheVariants.{Entry as EntryWords};
 
 use crate::host::Host;
-use crate::instances::{Instances, replay_on};
+use crate::instances::{Instances, no_instances, replay_on};
+use crate::observer::LogObserver;
 use crate::words::{Words, words_of};
-use indexmap::IndexMap;
 use itoa::Buffer;
 use lus_devices::Source;
 use lus_lawful::AuditError;
@@ -182,19 +183,65 @@ fn wrong_report(alloc: Global, number: u64, line: &[u8], right: &str) -> Result<
     })
 }
 
+/// Has the observer go on behind the right entry of the line of this number.
+fn see_entry<O: LogObserver>(
+    host: Host<'_>,
+    instances: &Instances,
+    line: u64,
+    observer: &mut O,
+) -> Result<(), AuditError>
+    requires { host.node.0 < length (program_of (arc_value host.program.now)).nodes }
+    ensures seen { let p = program_of (arc_value host.entry.program.now) in
+        OnOk result ((lines : List LogLine) (l : Logged) → line ≡ length lines + 1 → IsEntryOf instances.now.last l
+        → O.seen observer.old p host.entry.node.0 lines → O.seen observer.new p host.entry.node.0 (lines ++ LogEntry l ∷ [])) }
+    ensures outside { IfErr result IsOutside }
+{
+    let entry = instances.last.as_ref();
+    observer.see(host.alloc, host.program, host.node, line, entry)
+}
+
+/// Has the observer go on behind what was found, which begins on the line of this number.
+fn observe<O: LogObserver>(
+    host: Host<'_>,
+    instances: &Instances,
+    found: Found,
+    line: u64,
+    observer: &mut O,
+) -> Result<(), AuditError>
+    requires { host.node.0 < length (program_of (arc_value host.program.now)).nodes }
+    ensures seen { let p = program_of (arc_value host.entry.program.now) in
+        OnOk result ((lines : List LogLine) → line ≡ length lines + 1 → O.seen observer.old p host.entry.node.0 lines
+        → SeesMore found instances.now.last (O.seen observer.new p host.entry.node.0) lines) }
+    ensures outside { IfErr result IsOutside }
+{
+    match found {
+        Found::Right => see_entry(host, instances, line, observer),
+        Found::Wrong => see_entry(host, instances, line, observer),
+        Found::Noted => {
+            observer.pass();
+            Ok(())
+        }
+        Found::NoLine | Found::Cut | Found::Over => Ok(()),
+    }
+}
+
 /// Audits a log of instances of a node: each entry is replayed on a new instance of its name, up to the first whose reply isn't the right
-/// one, and notes are passed over. It is an error of a line where that is none of a log, which no line is of a log that can be read back:
-/// it is then in `line`. No more is kept than the instances and two lines. `keys` are of the names' hash function.
-pub fn audit_log<S: Source>(
+/// one, and the right entries are observed meanwhile, also that of the line that isn't right; notes are passed over. It is an error of a line where that is none of a log, which no line is of a log
+/// that can be read back: it is then in `line`. No more is kept than the instances, two lines and the observer. `keys` are of the names'
+/// hash function.
+pub fn audit_log<S: Source, O: LogObserver>(
     alloc: Global,
     program: &Arc<Program>,
     node: NodeId,
     keys: RandomState,
     source: &mut S,
     line: &mut Vec<u8>,
+    observer: &mut O,
 ) -> Result<LogReport, AuditError>
     requires { node.0 < length (program_of (arc_value program.now)).nodes }
-    ensures sound { IfOk result (λ r. HasAuditedLog (program_of (arc_value program.now)) node.0 r.is_lawful (S.left source.old) r.text.items) }
+    ensures sound { let p = program_of (arc_value program.now) in
+        IfOk result (λ r. HasAuditedLog p node.0 (Observes (O.seen observer.old p node.0) (O.seen observer.new p node.0)) r.is_lawful
+        (S.left source.old) r.text.items) }
     ensures complete { IfOk result (λ r. FindsInLog (program_of (arc_value program.now)) node.0 r.is_lawful (S.left source.old) r.text.items) }
     ensures blames { IfErr result (BlamesIf (IsNoLog (program_of (arc_value program.now)) (S.left source.old))) }
 {
@@ -204,13 +251,13 @@ pub fn audit_log<S: Source>(
         program,
         node,
     };
-    let mut instances = Instances {
-        by_name: IndexMap::with_hasher(alloc, keys),
-    };
+    let mut instances = no_instances(alloc, keys, observer.recalls());
     let mut right = String::new(alloc);
     let mut entries = 0u64;
     for lines in 0..u64::MAX {
-        match read_found(host, &mut instances, source, line, &mut right)? {
+        let found = read_found(host, &mut instances, source, line, &mut right)?;
+        observe(host, &instances, found, lines + 1, observer)?;
+        match found {
             Found::Right => entries += 1,
             Found::Noted => {}
             Found::Wrong => return Ok(wrong_report(alloc, lines + 1, line, &right)?),

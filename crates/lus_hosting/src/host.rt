@@ -5,12 +5,12 @@ ghost use Rattle.std.specs.Arc.{arc_value};
 ghost use Rattle.lus_lines.specs.Lines.{IsPlain};
 ghost use Rattle.lus_live_instance.specs.MachineSpecs.CodeSpecs.Codes.{program_of};
 ghost use Rattle.lus_live_instance.specs.MachineSpecs.Constructors.{names_of};
-ghost use Rattle.lus_reactions.specs.Reactions.{IsCallTo};
+ghost use Rattle.lus_sessions.specs.Calls.{IsCallTo};
 
 use lus_live_instance::lus_machine::{NodeId, Program};
 use lus_play::Calls;
-use lus_reactions::JsonCalls;
 use lus_requests::Request;
+use lus_sessions::JsonCalls;
 use lus_values::Memory;
 use std::alloc::Global;
 use std::sync::Arc;

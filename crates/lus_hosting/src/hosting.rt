@@ -1,6 +1,6 @@
 //! Hosting many instances.
 
-ghost use Rattle.std.specs.Prelude.{◌≡◌, ◌<◌, [], None, Some, IfErr, IfOk, List, OnErr, OnOk, length, option_map, string_bytes, true, ⊤};
+ghost use Rattle.std.specs.Prelude.{◌≡◌, ◌<◌, [], None, Some, IfErr, IfOk, List, OnErr, OnOk, length, option_map, string_bytes, true};
 ghost use Rattle.std.specs.Arc.{arc_value};
 ghost use Rattle.lus_bursts.specs.Syncs.{IsSafe};
 ghost use Rattle.lus_devices.specs.Devices.{WritesBeginning, with_text};
@@ -13,19 +13,18 @@ ghost use Rattle.lus_hosting.specs.Turns.{AreSafe, HasHosted, HasHostedSome, Sto
 
 use crate::error::HostError;
 use crate::host::Host;
-use crate::instances::Instances;
+use crate::instances::{Instances, no_instances};
 use crate::recovering::Recovered;
-use crate::settling::{are_due, hold, settle};
+use crate::settling::are_due;
 use crate::telling::{LogLines, Silent, Tells};
 use crate::turns::{Kind, Texts, answer, answer_long, clear};
 use crate::words::Lines;
-use indexmap::IndexMap;
 use lus_bursts::{Syncs, Waiting};
-use lus_devices::{Failure, Sink, Source, write_all};
+use lus_devices::{Sink, Source, write_all};
 use lus_lines::{Reading, read_line};
-use lus_live_instance::Score;
 use lus_live_instance::lus_machine::{NodeId, Program};
-use lus_play::PlayError;
+use lus_play::{PlayError, Score, hold, settle};
+use lus_sessions::Nowhere;
 use std::alloc::Global;
 use std::collections::hash_map::RandomState;
 use std::sync::Arc;
@@ -177,28 +176,6 @@ fn host_lines<J: Tells, T: Tells, S: Source, L: Syncs, O: Sink>(
     Err(HostError::Full)
 }
 
-/// Takes all, and keeps nothing.
-#[derive(Drop)]
-struct Nowhere;
-
-impl Syncs for Nowhere {
-    ghost syncs = { λ _ _. ⊤ };
-
-    fn sync(&mut self) -> Result<(), Failure> {
-        Ok(())
-    }
-}
-
-impl Sink for Nowhere {
-    ghost written = { λ _. None };
-
-    ghost failures = { λ _. None };
-
-    fn write(&mut self, piece: &[u8]) -> Result<usize, Failure> {
-        Ok(piece.len())
-    }
-}
-
 /// Makes the call of each line on the instance that it names, and writes its entry before the next line is read; replays the entry of
 /// each line that has one, of which nothing is written; and passes over notes. An instance is made where a line first names it. A line
 /// that is none of these enters nothing, and is answered in its place with the reason. An entry that isn't the next of its instance, or
@@ -226,9 +203,7 @@ pub fn host_many<T: Tells, S: Source, O: Sink>(
         program,
         node,
     };
-    let mut instances = Instances {
-        by_name: IndexMap::with_hasher(alloc, keys),
-    };
+    let mut instances = no_instances(alloc, keys, false);
     let silent = Silent;
     let mut nowhere = Nowhere;
     host_lines(

@@ -10,12 +10,11 @@ ghost use Rattle.lus_hosting.specs.Recoveries.{IsRecovered};
 
 use crate::auditing::{Found, read_found};
 use crate::host::Host;
-use crate::instances::Instances;
-use indexmap::IndexMap;
+use crate::instances::{Instances, no_instances};
 use lus_devices::Source;
 use lus_lawful::AuditError;
-use lus_live_instance::RecoveryError;
 use lus_live_instance::lus_machine::{NodeId, Program};
+use lus_sessions::RecoveryError;
 use std::alloc::Global;
 use std::collections::hash_map::RandomState;
 use std::sync::Arc;
@@ -87,9 +86,7 @@ pub fn recover_log<S: Source>(
         program,
         node,
     };
-    let mut instances = Instances {
-        by_name: IndexMap::with_hasher(alloc, keys),
-    };
+    let mut instances = no_instances(alloc, keys, false);
     let mut bytes = 0u64;
     for lines in 0..u64::MAX {
         match next_found(host, &mut instances, source, line, right)? {

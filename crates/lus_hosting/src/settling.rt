@@ -1,29 +1,10 @@
-//! Answers that are held until the log was synced.
+//! When answers that are held are due.
 
-ghost use Rattle.std.specs.Prelude.{◌≡◌, ◌++◌, OnErr, OnOk, true};
-ghost use Rattle.lus_hosting.specs.Hosts.{Settles, SettlesSome};
+ghost use Rattle.std.specs.Prelude.{◌≡◌, true};
 ghost use Rattle.lus_hosting.specs.declared.turns.Kind.TheVariants.{Ended, Unfinished};
 
 use crate::turns::Kind;
-use lus_bursts::{Syncs, Waiting};
-use lus_devices::{Sink, write_all};
-use lus_play::PlayError;
-
-/// Keeps an answer until it is written.
-pub(crate) fn hold(held: &mut Vec<u8>, answer: &str) -> Result<(), PlayError>
-    ensures { OnOk result (held.new.items ≡ held.old.items ++ answer.now) }
-{
-    match held.extend_from_slice(answer.as_bytes()) {
-        Ok(()) => Ok(()),
-        Err(_) => Err(PlayError::Memory),
-    }
-}
-
-/// Takes a line, and says whether no other waits.
-fn was_last(waiting: &Waiting) -> bool {
-    waiting.take();
-    !waiting.is_any()
-}
+use lus_bursts::Waiting;
 
 /// Whether answers are due behind a line of this kind: all that are held, but where the log is synced those before a line that was read
 /// ahead, which then are answered with it.
@@ -34,46 +15,6 @@ pub(crate) fn are_due(kind: Kind, is_synced: bool, waiting: &Waiting) -> bool
     match kind {
         Kind::Unfinished | Kind::Ended => true,
         Kind::Called | Kind::Replayed | Kind::Noted | Kind::Denied | Kind::Wrong | Kind::NoEntry =>
-            !is_synced || was_last(waiting),
-    }
-}
-
-/// Syncs the log, where it is to be.
-fn sync_log<L: Syncs>(is_synced: bool, log: &mut L) -> Result<(), PlayError>
-    ensures written { L.written log.new ≡ L.written log.old }
-    ensures synced { OnOk result (is_synced ≡ true → L.syncs log.old log.new) }
-{
-    if !is_synced {
-        return Ok(());
-    }
-    match log.sync() {
-        Ok(()) => Ok(()),
-        Err(_) => Err(PlayError::Write),
-    }
-}
-
-/// Writes the answers that are held, where they are due, once the log is synced, where it is to be.
-pub(crate) fn settle<L: Syncs, O: Sink>(
-    is_due: bool,
-    is_synced: bool,
-    log: &mut L,
-    output: &mut O,
-    held: &mut Vec<u8>,
-) -> Result<(), PlayError>
-    ensures written { L.written log.new ≡ L.written log.old }
-    ensures all { OnOk result (Settles L L.syncs is_due is_synced log.old log.new held.old.items held.new.items
-        (O.written output.old) (O.written output.new)) }
-    ensures some { OnErr result (SettlesSome L L.syncs is_synced log.old log.new held.old.items (O.written output.old) (O.written output.new)) }
-{
-    if !is_due || held.is_empty() {
-        return Ok(());
-    }
-    sync_log(is_synced, log)?;
-    match write_all(output, held) {
-        Ok(()) => {
-            held.clear();
-            Ok(())
-        }
-        Err(_) => Err(PlayError::Write),
+            !is_synced || waiting.take(),
     }
 }

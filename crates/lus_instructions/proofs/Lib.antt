@@ -5,4 +5,3 @@ pub mod Tallying
 pub mod Putting
 pub mod Following
 pub mod Growing
-pub mod LocatedSteps

@@ -48,13 +48,6 @@ pub struct Argument {
     pub atom: Atom,
 }
 
-/// How many cells and first-flags there are, or stand before a part.
-#[derive(Clone, Copy, PartialEq, Eq, Debug)]
-pub struct Extent {
-    pub cells: u32,
-    pub firsts: u32,
-}
-
 /// A call of a node, which runs where the base is present.
 #[derive(Drop)]
 pub struct Call {
@@ -62,14 +55,9 @@ pub struct Call {
     /// The newest test of the base.
     pub base: Option<Test>,
     pub arguments: Vec<Argument>,
-    /// Where the called node's part begins behind the caller's own places.
-    pub offset: Extent,
-    /// How long the called node's part is.
-    pub extent: Extent,
 }
 
-/// The class of a node. A node's part of a row has its own places first and then the parts of its calls. A clock is kept by its
-/// newest test: the older ones are those of the test's variable.
+/// The class of a node. A clock is kept by its newest test: the older ones are those of the test's variable.
 #[derive(Drop)]
 pub struct Class {
     pub inputs: u32,
@@ -82,8 +70,6 @@ pub struct Class {
     /// The newest test of each first-flag's clock.
     pub firsts: Vec<Option<Test>>,
     pub calls: Vec<Call>,
-    /// The node's part, those of its calls included.
-    pub extent: Extent,
 }
 
 /// The newest test of a variable's clock.

@@ -1,9 +1,8 @@
-//! Classes of nodes as they are run: for each node the steps of an instant, the cells and first-flags that are kept, and the
-//! calls, with the places of each in one row of cells and one of first-flags. Instructions: what the steps compute, one value
-//! after another; what operators give, for words and for values; and following instructions over rows of either.
+//! Classes of nodes: for each node the steps of an instant, the cells and first-flags that are kept, and the calls. Instructions:
+//! what the steps compute, one value after another; what operators give, for words and for values; and following instructions over
+//! rows of either.
 #![tactic(auto)]
 
-mod choosing;
 mod class;
 mod counting;
 mod entries;
@@ -24,7 +23,7 @@ mod stop;
 mod word;
 pub mod words;
 
-pub use class::{Argument, Call, Cell, Class, Extent, Part, Step, Target, test_of};
+pub use class::{Argument, Call, Cell, Class, Part, Step, Target, test_of};
 pub use entries::copy_value;
 pub use formula::{Atom, Formula};
 pub use held::Held;
@@ -32,10 +31,10 @@ pub use instruction::{Instruction, Operand};
 pub use layout::Layout;
 pub use located::Located;
 pub use located_machine::act_in_row;
-pub use locating::{locate, stays_within};
+pub use locating::locate;
 pub use on_located::act_located;
-pub use operation::{chosen, compute_two, decide, operate, project};
+pub use operation::operate;
 pub use place::{entry_at, fetch, found_at, read};
-pub use seen::{Seen, is_none, see, word_seen};
+pub use seen::{Seen, see};
 pub use stop::Stop;
 pub use word::word_of;

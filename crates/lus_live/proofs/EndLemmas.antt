@@ -1,99 +1,44 @@
 -- How a live run ends, by how its parts do.
-use Rattle.std.proofs.Common.{◌≡◌, ◌∙◌, ℕ, inl, inr, refl, subst, sym, List, [], Option, Some, None, Result, Ok, Err, IfOk, OnErr}
+use Rattle.std.proofs.Common.{◌≡◌, ◌∙◌, ℕ, Bool, true, false, inl, inr, refl, subst, sym, List, [], Option, Some, None}
 use Rattle.lus_values.specs.Names.{Names}
 use Rattle.lus_requests.specs.declared.request.Entry.{Entry}
 use Rattle.lus_program.specs.Programs.{Program}
+use Rattle.lus_bursts.specs.Syncs.{Safety}
 use Rattle.lus_devices.specs.Devices.{Bytes}
-use Rattle.lus_devices.specs.Folders.{Holds, Known, WithFile}
-use Rattle.lus_recovery.specs.Journals.{Parties}
-use Rattle.lus_recovery.specs.Recoveries.{HasRecovered}
-use Rattle.lus_recovery.specs.declared.error.RecoveryError.{RecoveryError}
-use Rattle.lus_recovery.specs.declared.error.RecoveryError.TheVariants as recoveries
-use Rattle.lus_recovery.specs.declared.recovering.Start.{Start}
-use Rattle.lus_told.specs.LiveSpecs.Lives.{HasLived, HasLivedOn, HasLivedSome, HasLivedSomeOn}
-use Rattle.lus_cli.specs.Changes.{Change, IsUntouched, change}
+use Rattle.lus_devices.specs.Folders.{Holds, Known}
+use Rattle.lus_live_instance.specs.MachineSpecs.Constructors.{names_of}
+use Rattle.lus_sessions.specs.Recoveries.{HasRecovered}
+use Rattle.lus_sessions.specs.declared.error.RecoveryError.{RecoveryError}
+use Rattle.lus_sessions.specs.declared.error.RecoveryError.TheVariants as recoveries
+use Rattle.lus_sessions.specs.declared.recovering.Start.{Start}
+use Rattle.lus_scripts.specs.declared.refusal.ScriptRefusal.TheVariants as scripts
+use Rattle.lus_cli.specs.Changes.{Change, change}
+use Rattle.lus_cli.specs.CodeSpecs.Codes.{ProgramCode, program_of}
 use Rattle.lus_cli.specs.CommandLine.{Text}
 use Rattle.lus_cli.specs.Faults.{IsQuiet}
+use Rattle.lus_cli.specs.MachineSpecs.CostSpecs.Costs.{IsCost}
+use Rattle.lus_cli.specs.MachineSpecs.CostSpecs.Places.{place_bytes}
+use Rattle.lus_cli.specs.MachineSpecs.CostSpecs.declared.cost.Cost.{Cost}
 use Rattle.lus_cli.specs.MachineSpecs.Formals.{node_named}
 use Rattle.lus_cli.specs.Programs.{IsOfFile, IsProgramFault}
 use Rattle.lus_cli.specs.declared.fault.Fault.{Fault}
 use Rattle.lus_cli.specs.declared.fault.Fault.TheVariants as faults
 use Rattle.lus_cli.proofs.ProgramLemmas.{file_then}
-use Rattle.lus_told.specs.Logged.{HasLogged, HasLoggedSome}
-use Rattle.lus_told.specs.Records.{HasToldCsv, HasToldCsvSome}
-use Rattle.lus_told.specs.Telling.{HasToldJson, HasToldJsonSome}
-use Rattle.lus_live.specs.CommandLine.{Asked, Form, behind, csv, journal, json, logged}
-use Rattle.lus_live.specs.Ends.{AsksBehind, GoesOn, HasGoneOn, HasLoggedOn, HasPlayedIn, IsRecovered, IsRecoveryFault, LiveFails, Lived, LivedOn, LogStays, LoggedOn, Logs, Ran, StaysIn, TaskEnds, ToldCsv, ToldJson, parties_of, recovery_fault}
-
--- what was played, whether to the end or not
-pub lived : (p : Program) (f : ℕ) (who : Parties) (left end : Option Bytes) (ran : Ran) (output : Change)
-    → IfOk ran (λ score. HasLived p f who left end output.old output.new score) → OnErr ran (HasLivedSome p f who left output.old output.new)
-    → Lived p f who left end ran output
-lived p f who left end (Ok score) output all begun = all
-lived p f who left end (Err e) output all begun = begun
-
--- what was told, whether to the end or not
-pub told_json : (p : Program) (f : ℕ) (left end : Option Bytes) (ran : Ran) (output : Change)
-    → IfOk ran (λ score. HasToldJson p f left end output.old output.new score) → OnErr ran (HasToldJsonSome p f left output.old output.new)
-    → ToldJson p f left end ran output
-told_json p f left end (Ok score) output all begun = all
-told_json p f left end (Err e) output all begun = begun
-
-pub told_csv : (p : Program) (f : ℕ) (left end : Option Bytes) (ran : Ran) (output : Change)
-    → IfOk ran (λ score. HasToldCsv p f left end output.old output.new score) → OnErr ran (HasToldCsvSome p f left output.old output.new)
-    → ToldCsv p f left end ran output
-told_csv p f left end (Ok score) output all begun = all
-told_csv p f left end (Err e) output all begun = begun
-
--- what was played, behind what a journal has
-lived_on : (p : Program) (f : ℕ) (who : Parties) (start : Start) (left end : Option Bytes) (before : List Entry) (ran : Ran) (output : Change)
-    → IfOk ran (λ score. HasLivedOn p f who start left end before output.old output.new score)
-    → OnErr ran (HasLivedSomeOn p f who start left before output.old output.new)
-    → LivedOn p f who start left end before ran output
-lived_on p f who start left end before (Ok score) output all begun = all
-lived_on p f who start left end before (Err e) output all begun = begun
+use Rattle.lus_live.specs.CommandLine.{Asked, writes_file}
+use Rattle.lus_live.specs.Ends.{AsksBehind, IsBeginFault, IsOpened, IsRecovered, IsRecoveryFault, LiveFails, LogStays, Ran, StaysIn, Tells, parties_of, recovery_fault}
+use Rattle.lus_live.specs.Limits.{RefusesNode, are_kept}
+use Rattle.lus_live.specs.declared.limits.Limits.{Limits}
+use Rattle.lus_live.specs.declared.words.Form.{Form}
+use Rattle.lus_live.specs.declared.words.Form.TheVariants.{Journal, Json, Csv}
 
 -- what was recovered of a file that was opened is recovered of its bytes
-pub recovered_file : (start : Start) (names : Names) (name : Text) (known : Known) (left ahead : Option Bytes) (h : List Entry) → Holds known left → ahead ≡ left
-    → HasRecovered start names name ahead [] h → WithFile known (λ bytes. HasRecovered start names name (Some bytes) [] h)
-recovered_file start names name known left ahead h holds same recovered =
-    file_then known (λ bytes. left ≡ Some bytes) (λ bytes. HasRecovered start names name (Some bytes) [] h)
-    (λ bytes is. subst (λ o. HasRecovered start names name o [] h) (same ∙ is) recovered) holds
-
-pub gone_on : (p : Program) (f : ℕ) (who : Parties) (start : Start) (left end : Option Bytes) (before : List Entry) (ran : Ran) (output : Change)
-    (known : Known) → IsRecovered known p who.node start before
-    → IfOk ran (λ score. HasLivedOn p f who start left end before output.old output.new score)
-    → OnErr ran (HasLivedSomeOn p f who start left before output.old output.new)
-    → HasGoneOn known p f who left end ran output
-gone_on p f who start left end before ran output known recovered all begun = record {
-  start = start;
-  before = before;
-  recovered = recovered;
-  lived = lived_on p f who start left end before ran output all begun;
-}
-
--- what was entered and told, behind what a journal has
-logged_on : (p : Program) (f : ℕ) (who : Parties) (start : Start) (left end : Option Bytes) (before : List Entry) (log : Change) (ran : Ran) (output : Change)
-    → IfOk ran (λ score. HasLogged p f who start left end before log.old log.new output.old output.new score)
-    → OnErr ran (HasLoggedSome p f who start left before log.old log.new output.old output.new)
-    → LoggedOn p f who start left end before log ran output
-logged_on p f who start left end before log (Ok score) output all begun = all
-logged_on p f who start left end before log (Err e) output all begun = begun
-
-pub has_logged : (p : Program) (f : ℕ) (who : Parties) (start : Start) (left end : Option Bytes) (before : List Entry) (log : Change) (ran : Ran) (output : Change)
-    (known : Known) (is_opened : Type 0) (l : Option Bytes) → l ≡ log.old → IsRecovered known p who.node start before → is_opened
-    → IfOk ran (λ score. HasLogged p f who start left end before l log.new output.old output.new score)
-    → OnErr ran (HasLoggedSome p f who start left before l log.new output.old output.new)
-    → HasLoggedOn known is_opened p f who left end log ran output
-has_logged p f who start left end before log ran output known is_opened l same recovered opened all begun = record {
-  start = start;
-  before = before;
-  recovered = recovered;
-  opened = opened;
-  logged = logged_on p f who start left end before log ran output
-      (subst (λ k. IfOk ran (λ score. HasLogged p f who start left end before k log.new output.old output.new score)) same all)
-      (subst (λ k. OnErr ran (HasLoggedSome p f who start left before k log.new output.old output.new)) same begun);
-}
+pub recovered_file : (start : Start) (p : Program) (names : Names) (name : Text) (known : Known) (left ahead : Option Bytes) (new h : List Entry)
+    → Holds known left → ahead ≡ left → new ≡ [] → names ≡ names_of p → HasRecovered start names name ahead new h → IsRecovered known p name start h
+recovered_file start p names name known left ahead new h holds same none named recovered =
+    file_then known (λ bytes. left ≡ Some bytes) (λ bytes. HasRecovered start (names_of p) name (Some bytes) [] h)
+    (λ bytes is. subst (λ ns. HasRecovered start ns name (Some bytes) [] h) named
+    (subst (λ es. HasRecovered start names name (Some bytes) es h) none
+    (subst (λ o. HasRecovered start names name o new h) (same ∙ is) recovered))) holds
 
 pub recovery_faults : (e : RecoveryError) → IsRecoveryFault (recovery_fault e)
 recovery_faults (recoveries.Line n) = tt
@@ -101,65 +46,69 @@ recovery_faults (recoveries.Wrong n) = tt
 recovery_faults recoveries.Read = tt
 recovery_faults recoveries.Memory = tt
 
+-- a node that costs more than it may
+pub costs_more : (limits : Limits) (file : Known) (name : Text) (code : ProgramCode) (node : ℕ) (cost : Cost) → IsOfFile file (program_of code)
+    → node_named (program_of code) name ≡ Some node → IsCost code.emitted (place_bytes code.source.program) node cost → are_kept limits cost ≡ false
+    → RefusesNode limits file name scripts.Limit
+costs_more limits file name code node cost accepted named costs more =
+    inr (refl, record { code = code; accepted = accepted; node = node; named = named; cost = cost; costs = costs; more = more })
+
 -- a fault of the program
-pub program_fails : (read_fails : Known → Type 0) (file : Known) (name : Text) (form : Form) (f : Fault) → IsProgramFault read_fails file f
-    → LiveFails read_fails file name form f
-program_fails read_fails file name form faults.File lost = inl lost
-program_fails read_fails file name form (faults.Program e) refused = refused
-program_fails read_fails file name form faults.Memory memory = tt
-program_fails read_fails file name form (faults.Journal n) never = absurd never
-program_fails read_fails file name form (faults.Signal n) never = absurd never
-program_fails read_fails file name form (faults.Scripts e) never = absurd never
-program_fails read_fails file name form faults.Words never = absurd never
-program_fails read_fails file name form faults.Output never = absurd never
-program_fails read_fails file name form faults.Start never = absurd never
+pub program_fails : (read_fails : Known → Type 0) (limits : Limits) (file : Known) (name : Text) (journal : Option Text) (f : Fault) → IsProgramFault read_fails file f
+    → LiveFails read_fails limits file name journal f
+program_fails read_fails limits file name journal faults.File lost = inl lost
+program_fails read_fails limits file name journal (faults.Program e) refused = refused
+program_fails read_fails limits file name journal faults.Memory memory = tt
+program_fails read_fails limits file name journal (faults.Journal n) never = absurd never
+program_fails read_fails limits file name journal (faults.Signal n) never = absurd never
+program_fails read_fails limits file name journal (faults.Scripts e) never = absurd never
+program_fails read_fails limits file name journal faults.Words never = absurd never
+program_fails read_fails limits file name journal faults.Output never = absurd never
+program_fails read_fails limits file name journal faults.Start never = absurd never
 
 -- a fault of a journal, of a node that the program has
-journal_fails : (read_fails : Known → Type 0) (file : Known) (name : Text) (form : Form) (f : Fault) → AsksBehind file name form → IsRecoveryFault f
-    → LiveFails read_fails file name form f
-journal_fails read_fails file name form faults.File asks is = inr asks
-journal_fails read_fails file name form (faults.Program e) asks never = absurd never
-journal_fails read_fails file name form faults.Memory asks is = tt
-journal_fails read_fails file name form (faults.Journal n) asks is = asks
-journal_fails read_fails file name form (faults.Signal n) asks never = absurd never
-journal_fails read_fails file name form (faults.Scripts e) asks never = absurd never
-journal_fails read_fails file name form faults.Words asks never = absurd never
-journal_fails read_fails file name form faults.Output asks never = absurd never
-journal_fails read_fails file name form faults.Start asks never = absurd never
+journal_fails : (read_fails : Known → Type 0) (limits : Limits) (file : Known) (name journal : Text) (f : Fault) → AsksBehind file name (Some journal) → IsRecoveryFault f
+    → LiveFails read_fails limits file name (Some journal) f
+journal_fails read_fails limits file name journal faults.File asks is = inr asks
+journal_fails read_fails limits file name journal (faults.Program e) asks never = absurd never
+journal_fails read_fails limits file name journal faults.Memory asks is = tt
+journal_fails read_fails limits file name journal (faults.Journal n) asks is = asks
+journal_fails read_fails limits file name journal (faults.Signal n) asks never = absurd never
+journal_fails read_fails limits file name journal (faults.Scripts e) asks never = absurd never
+journal_fails read_fails limits file name journal faults.Words asks never = absurd never
+journal_fails read_fails limits file name journal faults.Output asks never = absurd never
+journal_fails read_fails limits file name journal faults.Start asks never = absurd never
 
-module _ (read_fails : Known → Type 0) (known : Text → Known) (opens : Text → Type 0) (left end : Option Bytes) (log : Change) (asked : Asked) (p : Program)
-    (node : ℕ) (output : Change) (accepted : IsOfFile (known asked.program) p) (named : node_named p asked.node ≡ Some node) where
-  -- in the form that was asked for
-  pub task_played : (form : Form) (ran : Ran) → asked.form ≡ form → HasPlayedIn known opens form (parties_of asked) left end log ran output p node
-      → TaskEnds read_fails known opens left end log asked (Ok ran) output
-  task_played form ran is played = record {
-    program = p;
-    accepted = accepted;
-    node = node;
-    named = named;
-    played = subst (λ k. HasPlayedIn known opens k (parties_of asked) left end log ran output p node) (sym is) played;
-  }
+-- a fault before the first line, of a node that the program has
+pub begin_fails : (read_fails : Known → Type 0) (limits : Limits) (file : Known) (name : Text) (journal : Option Text) (f : Fault) (p : Program) (node : ℕ) → IsOfFile file p
+    → node_named p name ≡ Some node → IsBeginFault journal f → LiveFails read_fails limits file name journal f
+begin_fails read_fails limits file name None f p node accepted named fault = subst (LiveFails read_fails limits file name None) (sym fault) tt
+begin_fails read_fails limits file name (Some journal) f p node accepted named fault =
+    journal_fails read_fails limits file name journal f (p, node, accepted, named) fault
 
-  -- a journal isn't gone on from
-  task_fails : (form : Form) (f : Fault) → asked.form ≡ form → AsksBehind (known asked.program) asked.node form → IsRecoveryFault f → end ≡ left
-      → IsUntouched log → IsUntouched output → TaskEnds read_fails known opens left end log asked (Err f) output
-  task_fails form f is asks fault same log_same output_same = (
-    journal_fails read_fails (known asked.program) asked.node asked.form f (subst (AsksBehind (known asked.program) asked.node) (sym is) asks) fault,
-    same,
-    log_same,
-    output_same,
-  )
+unopened : (form : Form) (opens : Text → Type 0) → IsOpened (writes_file form None) opens None
+unopened Journal opens = tt
+unopened Json opens = tt
+unopened Csv opens = tt
 
-  pub task_behind : (file : Text) (result : Result Ran Fault) → asked.form ≡ behind file → IsUntouched log
-      → GoesOn (known file) p node (parties_of asked) left end result output → TaskEnds read_fails known opens left end log asked result output
-  task_behind file (Ok ran) is kept goes = task_played (behind file) ran is goes
-  task_behind file (Err f) is kept goes = task_fails (behind file) f is (p, node, accepted, named) goes.0 goes.1 kept goes.2
+-- without a file's journal no log is opened
+pub none_opened : (form : Form) (opens : Text → Type 0) (file : Option Text) → file ≡ None → IsOpened (writes_file form file) opens file
+none_opened form opens file none = subst (λ k. IsOpened (writes_file form k) opens k) (sym none) (unopened form opens)
 
-  pub task_logged : (file : Text) (result : Result Ran Fault) → asked.form ≡ logged file
-      → Logs (known file) (opens file) p node (parties_of asked) left end log result output
-      → TaskEnds read_fails known opens left end log asked result output
-  task_logged file (Ok ran) is logs = task_played (logged file) ran is logs
-  task_logged file (Err f) is logs = task_fails (logged file) f is (p, node, accepted, named) logs.0 logs.1 logs.2 logs.3
+-- what was told of a log is told of one that had taken the same
+pub told_of : (form : Form) (file : Option Text) (was_synced : Safety) (p : Program) (f : ℕ) (asked : Asked) (start : Start) (left end : Option Bytes)
+    (before : List Entry) (l m l' : Option Bytes) (a b c : Option ℕ) (output : Change) (ran : Ran) → m ≡ l → b ≡ a
+    → Tells form file was_synced p f (parties_of asked) start left end before (change m l' b c) output ran
+    → Tells form file was_synced p f (parties_of asked) start left end before (change l l' a c) output ran
+told_of form file was_synced p f asked start left end before l m l' a b c output ran same still told =
+    subst (λ n. Tells form file was_synced p f (parties_of asked) start left end before (change l l' n c) output ran) still
+    (subst (λ o. Tells form file was_synced p f (parties_of asked) start left end before (change o l' b c) output ran) same told)
+
+-- a log that was left alone before stays so
+pub stays_of : (is_written : Bool) (l m l' : Option Bytes) (a b c : Option ℕ) → m ≡ l → b ≡ a → StaysIn is_written (change m l' b c)
+    → StaysIn is_written (change l l' a c)
+stays_of true l m l' a b c same still stays = tt
+stays_of false l m l' a b c same still stays = (stays.0 ∙ same, stays.1 ∙ still)
 
 pub quiet_nothing : (f : Fault) (w : Option Bytes) (n : Option ℕ) → IsQuiet f (change w w n n)
 quiet_nothing (faults.Journal k) w n = tt
@@ -173,17 +122,16 @@ quiet_nothing faults.Memory w n = (refl, refl)
 quiet_nothing faults.Start w n = (refl, refl)
 
 -- a log that is left alone
-form_stays : (form : Form) (w : Option Bytes) (n : Option ℕ) → StaysIn form (change w w n n)
-form_stays journal w n = (refl, refl)
-form_stays (behind file) w n = (refl, refl)
-form_stays json w n = (refl, refl)
-form_stays (logged file) w n = tt
-form_stays csv w n = (refl, refl)
+flag_stays : (is_written : Bool) (w : Option Bytes) (n : Option ℕ) → StaysIn is_written (change w w n n)
+flag_stays true w n = tt
+flag_stays false w n = (refl, refl)
 
 pub still_stays : (asked : Option Asked) (w : Option Bytes) (n : Option ℕ) → LogStays asked (change w w n n)
 still_stays None w n = (refl, refl)
-still_stays (Some asked) w n = form_stays asked.form w n
+still_stays (Some asked) w n = flag_stays (writes_file asked.form asked.file) w n
 
--- one that a form goes on in
-pub logged_stays : (form : Form) (file : Text) (log : Change) → form ≡ logged file → StaysIn form log
-logged_stays form file log is = subst (λ f. StaysIn f log) (sym is) tt
+-- or what a device that was left alone before had
+pub left_alone : (asked : Asked) (w w' : Option Bytes) (n n' : Option ℕ) → w' ≡ w → n' ≡ n → LogStays (Some asked) (change w w' n n')
+left_alone asked w w' n n' same still =
+    subst (λ o. StaysIn (writes_file asked.form asked.file) (change w o n n')) (sym same)
+    (subst (λ m. StaysIn (writes_file asked.form asked.file) (change w w n m)) (sym still) (flag_stays (writes_file asked.form asked.file) w n))

@@ -3,7 +3,7 @@
 use itoa::Buffer;
 use lus_devices::{Sink, write_all};
 use lus_printable::printable;
-use lus_told::lus_live_instance::Start;
+use lus_sessions::Start;
 use std::alloc::Global;
 
 fn tell_all<F: Sink>(faults: &mut F, pieces: &[&[u8]]) {

@@ -2,9 +2,11 @@
 
 ghost use Rattle.std.specs.Prelude.{◌≡◌, IfOk, Some, None, Err, codes, map, option_map, string_bytes};
 ghost use Rattle.clap.specs.Words.{app_of, first_of, found_of, rows_of};
+ghost use Rattle.lus_cli.specs.CommandLine.{is_set};
 ghost use Rattle.lus_cli.specs.declared.words.WordsError.TheVariants.{Mistaken};
-ghost use Rattle.lus_live.specs.CommandLine.{asked, caller_of, form_in, form_seen, is_journal, said, task_seen, the_command};
+ghost use Rattle.lus_live.specs.CommandLine.{asked, caller_of, flagged, form_of, has_journal, said, sync_of, task_seen, the_command, writes_file};
 
+use crate::limits::{Limits, limits_in, with_limits};
 use clap::{ArgMatches, Command};
 use lus_cli::{
     WordsError, bare, is_set, matches, value_of, with_flag, with_optional, with_required,
@@ -13,17 +15,13 @@ use lus_cli::{
 use lus_scripts::is_name;
 use std::alloc::{AllocError, Global};
 
-/// How what becomes of the calls is written.
+/// What is told of calls.
 #[derive(Clone, Copy)]
-pub enum Form<'a> {
-    /// As a journal.
+pub enum Form {
+    /// The lines of a journal.
     Journal,
-    /// As what comes behind a file's journal.
-    Behind(&'a str),
     /// Each reply as an object of JSON.
     Json,
-    /// Likewise, once its entry is in a file's journal.
-    Logged(&'a str),
     /// The outputs of each step as a record of CSV, as which the steps are read.
     Csv,
 }
@@ -34,16 +32,30 @@ pub struct Task<'a> {
     pub program: &'a str,
     pub node: &'a str,
     pub caller: &'a str,
-    pub form: Form<'a>,
+    pub form: Form,
+    /// The file of a journal that the run goes on in.
+    pub journal: Option<&'a str>,
+    /// Whether that is synced before anything is told.
+    pub is_synced: bool,
+    /// What the node may cost.
+    pub limits: Limits,
+}
+
+/// The command with its flags and options.
+fn flagged<'a>(alloc: Global) -> Result<Command<'a>, AllocError>
+    ensures { IfOk result (λ c. app_of c ≡ flagged) }
+{
+    let json = with_flag(alloc, bare(alloc, "lus_live"), "json")?;
+    let csv = with_flag(alloc, json, "csv")?;
+    let sync = with_flag(alloc, csv, "sync")?;
+    let caller = with_value(alloc, sync, "caller")?;
+    with_limits(alloc, caller)
 }
 
 fn command<'a>(alloc: Global) -> Result<Command<'a>, AllocError>
     ensures { IfOk result (λ c. app_of c ≡ the_command) }
 {
-    let json = with_flag(alloc, bare(alloc, "lus_live"), "json")?;
-    let csv = with_flag(alloc, json, "csv")?;
-    let caller = with_value(alloc, csv, "caller")?;
-    let program = with_required(alloc, caller, "PROGRAM")?;
+    let program = with_required(alloc, flagged(alloc)?, "PROGRAM")?;
     let node = with_required(alloc, program, "NODE")?;
     with_optional(alloc, node, "JOURNAL")
 }
@@ -57,41 +69,58 @@ pub fn read_words<'a>(alloc: Global, words: &'a [String]) -> Result<Task<'a>, Wo
     choose(&matches).ok_or(WordsError::Mistaken)
 }
 
-/// A table goes with no file's journal, and of the two flags there is one at most.
-fn form_in<'a>(matches: &ArgMatches<'a>) -> Option<Form<'a>>
-    ensures { option_map form_seen result ≡ form_in (rows_of (found_of matches.now)) }
+/// Of the two flags there is one at most.
+fn form_in(is_json: bool, is_csv: bool) -> Option<Form>
+    ensures { result ≡ form_of is_json is_csv }
 {
-    match (
-        is_set(matches, "json"),
-        is_set(matches, "csv"),
-        value_of(matches, "JOURNAL"),
-    ) {
-        (false, false, None) => Some(Form::Journal),
-        (false, false, Some(journal)) => Some(Form::Behind(journal)),
-        (true, false, None) => Some(Form::Json),
-        (true, false, Some(journal)) => Some(Form::Logged(journal)),
-        (false, true, None) => Some(Form::Csv),
-        _ => None,
+    match (is_json, is_csv) {
+        (false, false) => Some(Form::Journal),
+        (true, false) => Some(Form::Json),
+        (false, true) => Some(Form::Csv),
+        (true, true) => None,
     }
 }
 
-fn is_journal(form: Form<'_>) -> bool
-    ensures { result ≡ is_journal (form_seen form.entry) }
+/// Whether the run itself writes on in a journal.
+pub(crate) fn writes_file(form: Form, journal: Option<&str>) -> bool
+    ensures { result ≡ writes_file form (option_map (λ t. t.now) journal.entry) }
 {
     match form {
-        Form::Journal | Form::Behind(_) | Form::Logged(_) => true,
-        Form::Json | Form::Csv => false,
+        Form::Journal => false,
+        Form::Json | Form::Csv => journal.is_some(),
+    }
+}
+
+/// Whether a journal is written.
+fn has_journal(form: Form, journal: Option<&str>) -> bool
+    ensures { result ≡ has_journal form (option_map (λ t. t.now) journal.entry) }
+{
+    match form {
+        Form::Journal => true,
+        Form::Json | Form::Csv => journal.is_some(),
     }
 }
 
 /// The name of the one caller, which only a journal has.
-fn caller_in<'a>(matches: &ArgMatches<'a>, form: Form<'a>) -> Option<&'a str>
-    ensures { option_map (λ t. t.now) result ≡ caller_of (form_seen form.entry) (first_of (codes "caller") (rows_of (found_of matches.now))) }
+fn caller_in<'a>(matches: &ArgMatches<'a>, form: Form, journal: Option<&'a str>) -> Option<&'a str>
+    ensures { option_map (λ t. t.now) result
+        ≡ caller_of form (option_map (λ t. t.now) journal.entry) (first_of (codes "caller") (rows_of (found_of matches.now))) }
 {
     match value_of(matches, "caller") {
         None => Some("user"),
-        Some(name) if is_journal(form) && is_name(name) => Some(name),
+        Some(name) if has_journal(form, journal) && is_name(name) => Some(name),
         Some(_) => None,
+    }
+}
+
+/// Whether a journal is synced, which only one is that the run itself writes.
+fn sync_in(is_synced: bool, form: Form, journal: Option<&str>) -> Option<bool>
+    ensures { result ≡ sync_of form (option_map (λ t. t.now) journal.entry) is_synced }
+{
+    if !is_synced || writes_file(form, journal) {
+        Some(is_synced)
+    } else {
+        None
     }
 }
 
@@ -99,14 +128,20 @@ fn caller_in<'a>(matches: &ArgMatches<'a>, form: Form<'a>) -> Option<&'a str>
 fn choose<'a>(matches: &ArgMatches<'a>) -> Option<Task<'a>>
     ensures { option_map task_seen result ≡ said (rows_of (found_of matches.now)) }
 {
-    let form = form_in(matches)?;
+    let limits = limits_in(matches)?;
+    let form = form_in(is_set(matches, "json"), is_set(matches, "csv"))?;
+    let journal = value_of(matches, "JOURNAL");
+    let is_synced = sync_in(is_set(matches, "sync"), form, journal)?;
+    let caller = caller_in(matches, form, journal)?;
     let program = value_of(matches, "PROGRAM")?;
     let node = value_of(matches, "NODE")?;
-    let caller = caller_in(matches, form)?;
     Some(Task {
         program,
         node,
         caller,
         form,
+        journal,
+        is_synced,
+        limits,
     })
 }

@@ -1,3 +1,3 @@
 pub mod Lives
-pub use Rattle.lus_reactions.specs.PlaySpecs as PlaySpecs
+pub use Rattle.lus_play.specs as PlaySpecs
 pub use Rattle.lus_machine.specs as MachineSpecs

@@ -8,7 +8,8 @@ use Rattle.lus_replay.specs.declared.line.Verdict.{Verdict}
 use Rattle.lus_replay.specs.declared.line.Verdict.TheVariants as verdicts
 use Rattle.lus_machine.specs.Constructors.{names_of}
 use Rattle.lus_values.specs.Names.{Text, Names}
-use Rattle.lus_live_node.specs.LiveNodes.{IsNext, Live, IsOf, IsTried, Keeps}
+use Rattle.lus_live_instance.specs.Lives.{IsLive}
+use Rattle.lus_live_node.specs.LiveNodes.{IsNext, Live, IsTried, Keeps}
 
 one_more : (h h' : List Entry) (e : Entry) (n : ℕ) → n ≡ length h → h' ≡ h ++ e ∷ [] → n + 1 ≡ length h'
 one_more h h' e n counted is =
@@ -30,7 +31,7 @@ replayed v p n line l m m' last keeps view tried right =
 
 -- what was judged behind the history of an instance
 judged_at : (v : Verdict) (line right : Text) (m m' : Told)
-    → IsJudged v (names_of m.program) (length m.history + 1) line right m.history m'.history → IsOf m.program m.node m' → IsTried v line m m'
+    → IsJudged v (names_of m.program) (length m.history + 1) line right m.history m'.history → IsLive m.program m.node m' → IsTried v line m m'
 judged_at verdicts.Right line right m m' judged of = record { of = of; right = judged }
 judged_at verdicts.Wrong line right m m' judged of = record { next = m'; of = of; right = right; wrong = judged }
 judged_at verdicts.NoEntry line right m m' judged of = judged
@@ -38,7 +39,7 @@ judged_at verdicts.NoEntry line right m m' judged of = judged
 -- a line was tried on a copy of an instance
 pub tried : (v : Verdict) (p : Program) (n : ℕ) (names : Names) (line right : Text) (l : Live) (m copy m' : Told) (last : Option Entry)
     → Keeps p n m last → record { instance = m; last = last } ≡ l → copy ≡ m → names ≡ names_of p
-    → IsJudged v names (n + 1) line right copy.history m'.history → ((q : Program) (f : ℕ) → IsOf q f copy → IsOf q f m')
+    → IsJudged v names (n + 1) line right copy.history m'.history → ((q : Program) (f : ℕ) → IsLive q f copy → IsLive q f m')
     → IsTried v line l.instance m'
 tried v p n names line right l m copy m' last keeps view copied named judged same =
     let kept : Keeps p n copy last = subst (λ k. Keeps p n k last) (sym copied) keeps in
@@ -47,5 +48,5 @@ tried v p n names line right l m copy m' last keeps view copied named judged sam
     subst (λ k. IsJudged v names (k + 1) line right copy.history m'.history) kept.counted judged in
     let at : IsJudged v (names_of copy.program) (length copy.history + 1) line right copy.history m'.history =
     subst (λ ns. IsJudged v ns (length copy.history + 1) line right copy.history m'.history) here numbered in
-    let of : IsOf copy.program copy.node m' = same copy.program copy.node (record { program = refl; node = refl; lawful = kept.lawful }) in
+    let of : IsLive copy.program copy.node m' = same copy.program copy.node (record { program = refl; node = refl; lawful = kept.lawful }) in
     subst (λ k. IsTried v line k m') (copied ∙ ap (λ (x : Live). x.instance) view) (judged_at v line right copy m' at of)

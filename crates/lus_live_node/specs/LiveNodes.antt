@@ -6,6 +6,7 @@ use Rattle.lus_requests.specs.declared.request.Request.{Request}
 use Rattle.lus_requests.specs.declared.request.Reply.{Reply}
 use Rattle.lus_requests.specs.declared.request.Entry.{Entry}
 use Rattle.lus_values.specs.Names.{Text}
+use Rattle.lus_live_instance.specs.Lives.{IsLive}
 use Rattle.lus_machine.specs.Constructors.{names_of}
 use Rattle.lus_machine.specs.Machines.{Told, IsLawful}
 use Rattle.lus_play.specs.Plays.{entry_of}
@@ -21,12 +22,6 @@ pub record Live : Type 0 where
 -- the most entries that are counted
 abbrev pub most_counted : ℕ
 most_counted = 18446744073709551615
-
--- an instance of this node, with a lawful history
-pub record IsOf (p : Program) (f : ℕ) (m : Told) : Type 0 where
-  pub program : m.program ≡ p
-  pub node : m.node ≡ f
-  pub lawful : IsLawful m
 
 -- the history ends in this entry
 abbrev pub EndsIn : Option Entry → List Entry → Type 0
@@ -54,13 +49,13 @@ last_line caller l = option_map (line_of (names_of l.instance.program) caller (l
 
 -- the line is that of the entry which is new in the history
 pub record IsNext (line : Text) (m m' : Told) : Type 0 where
-  pub of : IsOf m.program m.node m'
+  pub of : IsLive m.program m.node m'
   pub right : IsRight (names_of m.program) (length m.history + 1) line m.history m'.history
 
 -- the line asks a request of this instance, which answers it otherwise: so it would go on, and the right line is another
 pub record IsOther (line : Text) (m : Told) : Type 0 where
   pub next : Told
-  pub of : IsOf m.program m.node next
+  pub of : IsLive m.program m.node next
   pub right : Text
   pub wrong : IsWrong (names_of m.program) (length m.history + 1) line right m.history next.history
 

@@ -2,7 +2,6 @@
 #![tactic(auto)]
 
 mod live_node;
-mod trial;
 
 pub use live_node::LiveNode;
 pub use lus_replay::Verdict;

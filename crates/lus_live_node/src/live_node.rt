@@ -8,8 +8,8 @@ ghost use Rattle.lus_machine.specs.Machines.{IsLawful};
 ghost use Rattle.lus_requests.specs.declared.request.Reply.{Reply as ReplyType};
 ghost use Rattle.lus_live_node.specs.LiveNodes.{Enters, IsReplayed, IsTried, last_line, most_counted};
 
-use crate::trial::Trial;
 use lus_devices::push_line;
+use lus_live_instance::Instance;
 use lus_machine::{CallError, NodeId, Program, Reactor};
 use lus_replay::{Verdict, replay_line};
 use lus_requests::{Entry, Request};
@@ -113,13 +113,13 @@ impl LiveNode {
         requires { length self.now.instance.history < most_counted }
         ensures { IfOk result (λ r. IsTried r.0 line.now self.now.instance r.1) }
     {
-        let mut trial = Trial {
+        let mut trial = Instance {
             reactor: self.reactor.copy()?,
         };
         let mut right = String::new(alloc);
         let names = self.program.names();
         let verdict = replay_line(alloc, &mut trial, names, self.entries + 1, line, &mut right)?;
-        let Trial { reactor } = trial;
+        let Instance { reactor } = trial;
         Ok((verdict, reactor))
     }
 

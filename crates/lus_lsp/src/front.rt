@@ -1,50 +1,31 @@
 //! This compiler, as editors need it.
 
-ghost use Rattle.std.specs.Prelude.{◌≡◌, ◌∷◌, IfOk, List, map};
-ghost use Rattle.lus_syntax.specs.declared.refusal.Refusal.{Refusal};
-ghost use Rattle.lus_editing.specs.Diagnostics.{AreFaults};
-ghost use Rattle.lus_lsp.specs.Verdicts.{IsAccepted, IsRefused};
-
 use crate::facts::fact_of;
-use lus_editing::{Compiler, Fact, RenameProblem};
-use lus_error_recovery::Told;
+use crate::judging::judged_at;
+use lus_diagnostics::Diagnosis;
+use lus_editing::{Compiler, Fact, Judged, RenameProblem};
 use lus_format::{FormatError, format};
 use lus_rename::{RenameError, renamed};
-use lus_reports::{accept, findings_of};
+use lus_reports::diagnose;
 use lus_syntax::{Place, Refusal, RefusalNumber};
-use lus_warnings::{Warning, warnings_of};
 use std::alloc::{AllocError, Global};
+
+/// What is found, if the source isn't refused before.
+fn if_found<T: Drop>(found: Result<Option<T>, Refusal>) -> Result<Option<T>, AllocError> {
+    match found {
+        Ok(found) => Ok(found),
+        Err(refusal) if refusal.number == RefusalNumber::Memory => Err(AllocError),
+        Err(_) => Ok(None),
+    }
+}
 
 /// This compiler. It accepts and refuses what `lus --check` does.
 #[derive(Clone, Copy)]
 pub struct Front;
 
-/// The faults of a source that is refused: that of its refusal, and those behind it. Out of memory is no fault of a source.
-fn faults_with(alloc: Global, bytes: &[u8], refusal: Refusal) -> Result<Vec<Told>, AllocError>
-    ensures { IfOk result (λ told. (others : List Refusal) × (map (λ t. t.refusal) told.items ≡ refusal ∷ others)) }
-{
-    if refusal.number == RefusalNumber::Memory {
-        return Err(AllocError);
-    }
-    let (finding, mut faults) = findings_of(alloc, bytes, &refusal)?;
-    let first = Told { refusal, finding };
-    faults.insert(0, first)?;
-    Ok(faults)
-}
-
-/// The faults of a source, the one that it is refused for first; none where it is accepted.
-fn faults_of(alloc: Global, bytes: &[u8]) -> Result<Vec<Told>, AllocError>
-    ensures { IfOk result (λ told. AreFaults IsAccepted IsRefused bytes.now (map (λ t. t.refusal) told.items)) }
-{
-    match accept(alloc, bytes) {
-        Ok(_nodes) => Ok(Vec::new(alloc)),
-        Err(explanation) => faults_with(alloc, bytes, explanation.refusal),
-    }
-}
-
 impl Compiler for Front {
     ghost use Rattle.lus_lsp.specs.Renames.{Renames};
-    ghost use Rattle.lus_lsp.specs.Verdicts.{IsAccepted, IsRefused};
+    ghost use Rattle.lus_reports.specs.Diagnoses.{IsAccepted, IsRefused};
 
     ghost accepts = { IsAccepted };
 
@@ -52,16 +33,8 @@ impl Compiler for Front {
 
     ghost renames = { Renames };
 
-    fn faults(&self, alloc: Global, source: &str) -> Result<Vec<Told>, AllocError> {
-        faults_of(alloc, source.as_bytes())
-    }
-
-    fn warnings(&self, alloc: Global, source: &str) -> Result<Vec<Warning>, AllocError> {
-        match warnings_of(alloc, source, None) {
-            Ok(warnings) => Ok(warnings),
-            Err(refusal) if refusal.number == RefusalNumber::Memory => Err(AllocError),
-            Err(_) => Ok(Vec::new(alloc)),
-        }
+    fn diagnose(&self, alloc: Global, source: &str) -> Result<Diagnosis, AllocError> {
+        diagnose(alloc, source.as_bytes(), true)
     }
 
     fn renamed(
@@ -88,11 +61,16 @@ impl Compiler for Front {
         source: &str,
         declared: Place,
     ) -> Result<Option<Fact>, AllocError> {
-        match fact_of(alloc, source, declared) {
-            Ok(fact) => Ok(fact),
-            Err(refusal) if refusal.number == RefusalNumber::Memory => Err(AllocError),
-            Err(_) => Ok(None),
-        }
+        if_found(fact_of(alloc, source, declared))
+    }
+
+    fn judged(
+        &self,
+        alloc: Global,
+        source: &str,
+        byte: usize,
+    ) -> Result<Option<Judged>, AllocError> {
+        if_found(judged_at(alloc, source, byte))
     }
 
     fn laid_out(&self, alloc: Global, source: &str) -> Result<Option<String>, AllocError> {

@@ -3,6 +3,8 @@
 
 mod facts;
 mod front;
+mod judging;
+mod narrowing;
 mod shell;
 
 pub use shell::command;

@@ -9,7 +9,7 @@ ghost use Rattle.lus_machine.specs.Machines.{IsLawful, entry};
 use crate::answers::{SLOTS, answer, answer_twice};
 use crate::program::Program;
 use crate::trace::Trace;
-use lus_eval::Object;
+use lus_eval::{Object, Saved};
 use lus_program::NodeId;
 use lus_requests::{Entry, Reply, Request};
 use lus_values::Memory;
@@ -23,7 +23,7 @@ pub struct Reactor {
     program: Arc<Program>,
     node: NodeId,
     object: Object,
-    slots: Vec<Option<Object>>,
+    slots: Vec<Option<Saved>>,
     trace: Trace,
 }
 
@@ -44,7 +44,7 @@ impl Model for Reactor {
     ghost invariant = { λ r. Lives (arc_value r.program) r.node.0 r.trace.entries r.object r.slots.items };
 }
 
-fn empty_slots(alloc: Global) -> Result<Vec<Option<Object>>, Memory>
+fn empty_slots(alloc: Global) -> Result<Vec<Option<Saved>>, Memory>
     ensures { IfOk result (λ s. s.items ≡ replicate slot_count None) }
 {
     let mut slots = Vec::new(alloc);
@@ -54,7 +54,7 @@ fn empty_slots(alloc: Global) -> Result<Vec<Option<Object>>, Memory>
     Ok(slots)
 }
 
-fn copy_slots(alloc: Global, slots: &[Option<Object>]) -> Result<Vec<Option<Object>>, Memory>
+fn copy_slots(alloc: Global, slots: &[Option<Saved>]) -> Result<Vec<Option<Saved>>, Memory>
     ensures { IfOk result (λ copies. copies.items ≡ slots.now) }
 {
     let mut copies = Vec::new(alloc);
@@ -64,11 +64,11 @@ fn copy_slots(alloc: Global, slots: &[Option<Object>]) -> Result<Vec<Option<Obje
     Ok(copies)
 }
 
-fn copy_slot(slot: &Option<Object>) -> Result<Option<Object>, Memory>
+fn copy_slot(slot: &Option<Saved>) -> Result<Option<Saved>, Memory>
     ensures { IfOk result (λ copy. copy ≡ slot.now) }
 {
     match slot {
-        Some(object) => Ok(Some(object.copy()?)),
+        Some(saved) => Ok(Some(saved.copy()?)),
         None => Ok(None),
     }
 }

@@ -19,6 +19,7 @@ use Rattle.lus_cli.specs.declared.fault.Fault.{Fault}
 use Rattle.lus_cli.specs.declared.fault.Fault.TheVariants as faults
 use Rattle.lus_cli.proofs.ProgramLemmas.{file_then}
 use Rattle.lus_live.specs.Ends.{IsRecoveryFault}
+use Rattle.lus_live.specs.declared.limits.Limits.{Limits}
 use Rattle.lus_many.specs.CommandLine.{Asked, Session}
 use Rattle.lus_many.specs.Ends.{AsksSession, CutsTail, GoesOn, HasGoneOn, HasRunIn, HostFails, Hosted, HostedOn, IsRecovered, IsSessionFault, LogStays, Ran, Readies, StaysIn, TaskEnds, spelling_of}
 use Rattle.lus_many.specs.Objects.{node_spelling}
@@ -89,37 +90,37 @@ pub cut_some : {L : Type 0} → (cuts : L → ℕ → L → Type 0) (cut : Optio
 cut_some cuts cut bytes line log new is taken = subst (λ o. CutsTail cuts o bytes log new) (sym is) taken
 
 -- a fault of the program
-pub program_fails : (read_fails : Known → Type 0) (file : Known) (name : Text) (session : Option Session) (f : Fault) → IsProgramFault read_fails file f
-    → HostFails read_fails file name session f
-program_fails read_fails file name session faults.File lost = inl lost
-program_fails read_fails file name session (faults.Program e) refused = refused
-program_fails read_fails file name session faults.Memory memory = tt
-program_fails read_fails file name session (faults.Journal n) never = absurd never
-program_fails read_fails file name session (faults.Signal n) never = absurd never
-program_fails read_fails file name session (faults.Scripts e) never = absurd never
-program_fails read_fails file name session faults.Words never = absurd never
-program_fails read_fails file name session faults.Output never = absurd never
-program_fails read_fails file name session faults.Start never = absurd never
+pub program_fails : (read_fails : Known → Type 0) (limits : Limits) (file : Known) (name : Text) (session : Option Session) (f : Fault) → IsProgramFault read_fails file f
+    → HostFails read_fails limits file name session f
+program_fails read_fails limits file name session faults.File lost = inl lost
+program_fails read_fails limits file name session (faults.Program e) refused = refused
+program_fails read_fails limits file name session faults.Memory memory = tt
+program_fails read_fails limits file name session (faults.Journal n) never = absurd never
+program_fails read_fails limits file name session (faults.Signal n) never = absurd never
+program_fails read_fails limits file name session (faults.Scripts e) never = absurd never
+program_fails read_fails limits file name session faults.Words never = absurd never
+program_fails read_fails limits file name session faults.Output never = absurd never
+program_fails read_fails limits file name session faults.Start never = absurd never
 
 -- a fault of a log, of a node that the program has
-log_fails : (read_fails : Known → Type 0) (file : Known) (name : Text) (session : Option Session) (f : Fault) → AsksSession file name session → IsRecoveryFault f
-    → HostFails read_fails file name session f
-log_fails read_fails file name session faults.File asks is = inr asks
-log_fails read_fails file name session (faults.Program e) asks never = absurd never
-log_fails read_fails file name session faults.Memory asks is = tt
-log_fails read_fails file name session (faults.Journal n) asks is = asks
-log_fails read_fails file name session (faults.Signal n) asks never = absurd never
-log_fails read_fails file name session (faults.Scripts e) asks never = absurd never
-log_fails read_fails file name session faults.Words asks never = absurd never
-log_fails read_fails file name session faults.Output asks never = absurd never
-log_fails read_fails file name session faults.Start asks never = absurd never
+log_fails : (read_fails : Known → Type 0) (limits : Limits) (file : Known) (name : Text) (session : Option Session) (f : Fault) → AsksSession file name session → IsRecoveryFault f
+    → HostFails read_fails limits file name session f
+log_fails read_fails limits file name session faults.File asks is = inr asks
+log_fails read_fails limits file name session (faults.Program e) asks never = absurd never
+log_fails read_fails limits file name session faults.Memory asks is = tt
+log_fails read_fails limits file name session (faults.Journal n) asks is = asks
+log_fails read_fails limits file name session (faults.Signal n) asks never = absurd never
+log_fails read_fails limits file name session (faults.Scripts e) asks never = absurd never
+log_fails read_fails limits file name session faults.Words asks never = absurd never
+log_fails read_fails limits file name session faults.Output asks never = absurd never
+log_fails read_fails limits file name session faults.Start asks never = absurd never
 
-session_fails : (read_fails : Known → Type 0) (file : Known) (name : Text) (session : Option Session) (f : Fault) → AsksSession file name session
-    → IsSessionFault f → HostFails read_fails file name session f
-session_fails read_fails file name session f asks fault =
+session_fails : (read_fails : Known → Type 0) (limits : Limits) (file : Known) (name : Text) (session : Option Session) (f : Fault) → AsksSession file name session
+    → IsSessionFault f → HostFails read_fails limits file name session f
+session_fails read_fails limits file name session f asks fault =
     elim fault [
-      | inl is ↦ log_fails read_fails file name session f asks is
-      | inr is ↦ subst (HostFails read_fails file name session) (sym is) asks
+      | inl is ↦ log_fails read_fails limits file name session f asks is
+      | inr is ↦ subst (HostFails read_fails limits file name session) (sym is) asks
     ]
 
 module _ (read_fails : Known → Type 0) (known : Text → Known) (readies : Readies) (is_safe : Safety) (left end : Option Bytes) (log : Change) (asked : Asked)
@@ -140,7 +141,7 @@ module _ (read_fails : Known → Type 0) (known : Text → Known) (readies : Rea
       → TaskEnds read_fails known readies is_safe left end log asked result output
   task_goes session (Ok ran) is goes = task_ran (Some session) ran is goes
   task_goes session (Err f) is goes = (
-    session_fails read_fails (known asked.program) asked.node asked.session f
+    session_fails read_fails asked.limits (known asked.program) asked.node asked.session f
         (subst (AsksSession (known asked.program) asked.node) (sym is) (p, node, accepted, named)) goes.0,
     goes.1,
     goes.2,

@@ -3,12 +3,15 @@ use Rattle.std.specs.Prelude.{Bool, true, false, List, Option, Some, None, optio
 use Rattle.clap.specs.Words.{App, Row, first_of}
 use Rattle.lus_scripts.specs.Forms.{is_name}
 use Rattle.lus_cli.specs.CommandLine.{Text, asked_of, bare, is_set, with_flag, with_optional, with_required, with_value}
+use Rattle.lus_live.specs.Limits.{limits_of, with_limits}
+use Rattle.lus_live.specs.declared.limits.Limits.{Limits}
 use Rattle.lus_many.specs.declared.words.Session.{Session as StoredSession}
 use Rattle.lus_many.specs.declared.words.Task.{Task}
 
--- the flags `--many`, `--json` and `--sync`, and an option `--caller NAME`
+-- the flags `--many`, `--json` and `--sync`, an option `--caller NAME`, and those of limits
 abbrev pub flagged : App
-flagged = with_value (codes "caller") (with_flag (codes "sync") (with_flag (codes "json") (with_flag (codes "many") (bare (codes "lus_live")))))
+flagged =
+    with_limits (with_value (codes "caller") (with_flag (codes "sync") (with_flag (codes "json") (with_flag (codes "many") (bare (codes "lus_live"))))))
 
 -- these, a required PROGRAM, a required NODE, and perhaps a LOG
 abbrev pub the_command : App
@@ -20,12 +23,13 @@ pub record Session : Type 0 where
   pub caller : Option Text
   pub is_synced : Bool
 
--- a node of a program, whether answers are objects of JSON, and perhaps a log that is gone on in
+-- a node of a program, whether answers are objects of JSON, perhaps a log that is gone on in, and what the node may cost
 pub record Asked : Type 0 where
   pub program : Text
   pub node : Text
   pub is_json : Bool
   pub session : Option Session
+  pub limits : Limits
 
 -- the log of a file
 abbrev pub with_log : Bool → Text → Option Text → Option (Option Session)
@@ -39,17 +43,20 @@ session_of is_synced None (Some caller) = None
 session_of is_synced (Some log) None = with_log is_synced log None
 session_of is_synced (Some log) (Some caller) = if is_name caller then with_log is_synced log (Some caller) else None
 
-abbrev pub with_session : Text → Text → Bool → Option Session → Asked
-with_session program node is_json session = record { program = program; node = node; is_json = is_json; session = session }
+abbrev pub with_limit : Text → Text → Bool → Option Session → Option Limits → Option Asked
+with_limit program node is_json session None = None
+with_limit program node is_json session (Some limits) =
+    Some (record { program = program; node = node; is_json = is_json; session = session; limits = limits })
 
-abbrev pub chosen : Bool → Option (Option Session) → Option Text → Option Text → Option Asked
-chosen is_json session None _ = None
-chosen is_json session (Some program) None = None
-chosen is_json session (Some program) (Some node) = option_map (with_session program node is_json) session
+abbrev pub chosen : Bool → Option (Option Session) → Option Limits → Option Text → Option Text → Option Asked
+chosen is_json session limits None _ = None
+chosen is_json session limits (Some program) None = None
+chosen is_json None limits (Some program) (Some node) = None
+chosen is_json (Some session) limits (Some program) (Some node) = with_limit program node is_json session limits
 
 abbrev pub said : List Row → Option Asked
 said m =
-    chosen (is_set (codes "json") m) (session_of (is_set (codes "sync") m) (first_of (codes "LOG") m) (first_of (codes "caller") m))
+    chosen (is_set (codes "json") m) (session_of (is_set (codes "sync") m) (first_of (codes "LOG") m) (first_of (codes "caller") m)) (limits_of m)
     (first_of (codes "PROGRAM") m) (first_of (codes "NODE") m)
 
 -- what the words after the program's own name ask for, where they are well formed
@@ -65,4 +72,4 @@ sessions_seen session = option_map session_seen session
 
 -- a task as plain data
 abbrev pub task_seen : Task → Asked
-task_seen t = record { program = t.program.now; node = t.node.now; is_json = t.is_json; session = sessions_seen t.session }
+task_seen t = record { program = t.program.now; node = t.node.now; is_json = t.is_json; session = sessions_seen t.session; limits = t.limits }

@@ -21,10 +21,12 @@ use Rattle.lus_cli.specs.Changes.{Change, IsUntouched}
 use Rattle.lus_cli.specs.CommandLine.{Text}
 use Rattle.lus_cli.specs.Ends.{AskedEnds, IsLost}
 use Rattle.lus_cli.specs.Faults.{IsToldAlone, IsToldLast}
-use Rattle.lus_cli.specs.Programs.{IsOfFile, LacksNode, lines_status}
+use Rattle.lus_cli.specs.Programs.{IsOfFile, lines_status}
 use Rattle.lus_cli.specs.declared.fault.Fault.{Fault}
 use Rattle.lus_cli.specs.declared.fault.Fault.TheVariants as faults
 use Rattle.lus_live.specs.Ends.{IsRecoveryFault}
+use Rattle.lus_live.specs.Limits.{RefusesNode}
+use Rattle.lus_live.specs.declared.limits.Limits.{Limits}
 use Rattle.lus_many.specs.CommandLine.{Asked, Session}
 use Rattle.lus_many.specs.Objects.{node_spelling}
 
@@ -106,25 +108,25 @@ abbrev pub AsksSession : Known → Text → Option Session → Type 0
 AsksSession file name None = ⊥
 AsksSession file name (Some session) = (p : Program) × (node : ℕ) × IsOfFile file p × (node_named p name ≡ Some node)
 
--- why no line is read: the program's file is lost, it is refused, or it lacks the node; or the log's file is lost, or a line of it isn't
+-- why no line is read: the program's file is lost, it is refused, or it lacks the node, or this costs more than it may; or the log's file is lost, or a line of it isn't
 -- right, or can't be taken away; or memory was wanting
-abbrev pub HostFails : (Known → Type 0) → Known → Text → Option Session → Fault → Type 0
-HostFails read_fails file name session faults.File = IsLost read_fails file ⊎ AsksSession file name session
-HostFails read_fails file name session (faults.Program e) = WithFile file (λ text. ProgramRefused text e)
-HostFails read_fails file name session (faults.Scripts e) = (e ≡ scripts.Unknown) × LacksNode file name
-HostFails read_fails file name session faults.Memory = ⊤
-HostFails read_fails file name session (faults.Journal n) = AsksSession file name session
-HostFails read_fails file name session (faults.Signal n) = ⊥
-HostFails read_fails file name session faults.Words = ⊥
-HostFails read_fails file name session faults.Output = AsksSession file name session
-HostFails read_fails file name session faults.Start = ⊥
+abbrev pub HostFails : (Known → Type 0) → Limits → Known → Text → Option Session → Fault → Type 0
+HostFails read_fails limits file name session faults.File = IsLost read_fails file ⊎ AsksSession file name session
+HostFails read_fails limits file name session (faults.Program e) = WithFile file (λ text. ProgramRefused text e)
+HostFails read_fails limits file name session (faults.Scripts e) = RefusesNode limits file name e
+HostFails read_fails limits file name session faults.Memory = ⊤
+HostFails read_fails limits file name session (faults.Journal n) = AsksSession file name session
+HostFails read_fails limits file name session (faults.Signal n) = ⊥
+HostFails read_fails limits file name session faults.Words = ⊥
+HostFails read_fails limits file name session faults.Output = AsksSession file name session
+HostFails read_fails limits file name session faults.Start = ⊥
 
 -- instances are hosted, or no line is read and nothing is written
 abbrev pub TaskEnds : (Known → Type 0) → (Text → Known) → Readies → Safety → Option Bytes → Option Bytes → Change → Asked → Result Ran Fault → Change
     → Type 0
 TaskEnds read_fails known readies is_safe left end log asked (Ok ran) output = HasRun known readies is_safe asked left end log ran output
 TaskEnds read_fails known readies is_safe left end log asked (Err f) output =
-    HostFails read_fails (known asked.program) asked.node asked.session f × (end ≡ left) × IsUntouched log × IsUntouched output
+    HostFails read_fails asked.limits (known asked.program) asked.node asked.session f × (end ≡ left) × IsUntouched log × IsUntouched output
 
 -- without a log among the words the log's device is left alone
 abbrev pub StaysIn : Option Session → Change → Type 0

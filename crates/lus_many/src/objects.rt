@@ -9,8 +9,8 @@ ghost use Rattle.lus_hosting.specs.Turns.{HasHosted, HasHostedSome, everything};
 ghost use Rattle.lus_many.specs.Objects.{denial_json, json_spelling, members_of, names_json, node_spelling, quoted};
 
 use lus_devices::{Sink, Source};
-use lus_hosting::lus_live_instance::Score;
 use lus_hosting::lus_live_instance::lus_machine::{NodeId, Program};
+use lus_hosting::lus_sessions::Score;
 use lus_hosting::{HostError, Tells, host_many};
 use lus_program::{Program as PlainProgram, Variable};
 use lus_replies::push_reply;

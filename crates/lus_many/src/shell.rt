@@ -24,10 +24,10 @@ use lus_cli::{Fault, lines_status, read_program, tell, tell_nodes};
 use lus_devices::{Folder, Sink, Source};
 use lus_hosting::lus_bursts::{Syncs, Waiting};
 use lus_hosting::lus_live_instance::lus_machine::{NodeId, Program};
-use lus_hosting::lus_live_instance::{RecoveryError, Score};
+use lus_hosting::lus_sessions::{RecoveryError, Score};
 use lus_hosting::{HostError, LogLines, Recovered, host_behind, host_log, recover_log};
 use lus_lines::Buffered;
-use lus_live::Log;
+use lus_live::{Log, tell_above};
 use std::alloc::Global;
 use std::collections::hash_map::RandomState;
 use std::sync::Arc;
@@ -87,6 +87,11 @@ fn host_on<D: Folder, S: Source, L: Log, O: Sink, F: Sink>(
         tell_nodes(&program, faults);
         return Err(Fault::Scripts(ScriptRefusal::Unknown));
     };
+    let cost = program.cost(node);
+    if !task.limits.are_kept(cost) {
+        tell_above(cost, task.limits, faults);
+        return Err(Fault::Scripts(ScriptRefusal::Limit));
+    }
     let Ok(program) = Arc::new(alloc, program) else {
         return Err(Fault::Memory);
     };

@@ -3,13 +3,14 @@
 ghost use Rattle.std.specs.Prelude.{◌≡◌, IfOk, Some, None, Err, map, option_map, string_bytes};
 ghost use Rattle.clap.specs.Words.{app_of, found_of, rows_of};
 ghost use Rattle.lus_cli.specs.declared.words.WordsError.TheVariants.{Mistaken};
-ghost use Rattle.lus_many.specs.CommandLine.{asked, session_of, sessions_seen, said, task_seen, the_command};
+ghost use Rattle.lus_many.specs.CommandLine.{asked, flagged, session_of, sessions_seen, said, task_seen, the_command};
 
 use clap::{ArgMatches, Command};
 use lus_cli::{
     WordsError, bare, is_set, matches, value_of, with_flag, with_optional, with_required,
     with_value,
 };
+use lus_live::{Limits, limits_in, with_limits};
 use lus_scripts::is_name;
 use std::alloc::{AllocError, Global};
 
@@ -22,6 +23,8 @@ pub struct Task<'a> {
     pub is_json: bool,
     /// The log that is gone on in, if one is.
     pub session: Option<Session<'a>>,
+    /// What the node may cost.
+    pub limits: Limits,
 }
 
 /// A log that is gone on in, by the name of its file, who calls, if it is one caller, and whether the log is synced before answers.
@@ -37,14 +40,21 @@ pub fn is_many(words: &[String]) -> bool {
     words.iter().any(|word| word.as_str() == "--many")
 }
 
-fn command<'a>(alloc: Global) -> Result<Command<'a>, AllocError>
-    ensures { IfOk result (λ c. app_of c ≡ the_command) }
+/// The command with its flags and options.
+fn flagged<'a>(alloc: Global) -> Result<Command<'a>, AllocError>
+    ensures { IfOk result (λ c. app_of c ≡ flagged) }
 {
     let many = with_flag(alloc, bare(alloc, "lus_live"), "many")?;
     let json = with_flag(alloc, many, "json")?;
     let sync = with_flag(alloc, json, "sync")?;
     let caller = with_value(alloc, sync, "caller")?;
-    let program = with_required(alloc, caller, "PROGRAM")?;
+    with_limits(alloc, caller)
+}
+
+fn command<'a>(alloc: Global) -> Result<Command<'a>, AllocError>
+    ensures { IfOk result (λ c. app_of c ≡ the_command) }
+{
+    let program = with_required(alloc, flagged(alloc)?, "PROGRAM")?;
     let node = with_required(alloc, program, "NODE")?;
     with_optional(alloc, node, "LOG")
 }
@@ -93,10 +103,12 @@ fn choose<'a>(matches: &ArgMatches<'a>) -> Option<Task<'a>>
     let is_json = is_set(matches, "json");
     let (log, caller) = (value_of(matches, "LOG"), value_of(matches, "caller"));
     let session = choose_session(is_set(matches, "sync"), log, caller)?;
+    let limits = limits_in(matches)?;
     Some(Task {
         program,
         node,
         is_json,
         session,
+        limits,
     })
 }

@@ -1,6 +1,8 @@
 //! Changes of a source that help: with each the parser gets further than the change goes. And further ones that the equation needs.
 
-use crate::fault::{Fault, fault_at};
+use crate::edits::edit_of;
+use crate::fault::{Fault, Range, fault_at};
+use crate::gate::{about_marks, words_in};
 use crate::grouping::mix_at;
 use crate::readable::{readable, tokens_in};
 use crate::rewriting::rewritten;
@@ -70,6 +72,23 @@ pub fn helping(
     } else {
         Ok(None)
     }
+}
+
+/// The change that writes a text in the place of some tokens, if it helps.
+pub fn written(
+    alloc: Global,
+    fault: &Fault<'_>,
+    range: Range,
+    text: &str,
+) -> Result<Option<Edit>, AllocError> {
+    let (from, to) = range;
+    let mut about = about_marks(alloc);
+    for place in from..to {
+        about.drops.push(fault.text(place))?;
+    }
+    about.adds = words_in(alloc, text)?;
+    let edit = edit_of(alloc, fault, range, text, &about)?;
+    helping(alloc, fault.source, edit, fault.number)
 }
 
 /// A change of a text if it helps, as that of a mix was found to do.
@@ -162,8 +181,11 @@ fn joined(
     }))
 }
 
-/// Whether a line or an equation goes on from a change of a text up to a byte behind it.
+/// Whether a line, an equation or, from its `let` on, the body of a node goes on from a change of a text up to a byte behind it.
 fn goes_on(changed: &str, edit: &Edit, byte: usize) -> bool {
+    if is_any(edit.text.as_str(), &["let"]) {
+        return true;
+    }
     let made = edit.byte.saturating_add(edit.text.len());
     match bytes_at(changed, made, byte) {
         Some(between) => !between.contains(";") || !between.contains("\n"),

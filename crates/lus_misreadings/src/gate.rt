@@ -60,41 +60,54 @@ pub fn words_in(alloc: Global, text: &str) -> Result<Vec<&str>, AllocError> {
 
 /// What stands from a byte of a text up to the end of its line.
 pub fn line_from(text: &str, byte: usize) -> &str {
-    let rest = bytes_at(text, byte, text.len()).unwrap_or("");
-    rest.lines().next().unwrap_or("")
+    let rest = text.as_bytes().get(byte..).unwrap_or(&[]);
+    let length = rest
+        .iter()
+        .position(|letter| *letter == b'\n')
+        .unwrap_or(rest.len());
+    let line = bytes_at(text, byte, byte.saturating_add(length)).unwrap_or("");
+    line.strip_suffix("\r").unwrap_or(line)
 }
 
 /// The byte at which the line of a byte begins.
 fn line_start(text: &str, byte: usize) -> usize {
-    let mut start = 0;
-    for (place, letter) in text.as_bytes().iter().enumerate() {
-        if place >= byte {
-            return start;
-        }
+    let before = text.as_bytes().get(..byte).unwrap_or(text.as_bytes());
+    for (behind, letter) in before.iter().rev().enumerate() {
         if *letter == b'\n' {
-            start = place.saturating_add(1);
+            return before.len().saturating_sub(behind);
         }
     }
-    start
+    0
 }
 
-/// The lines of a text that so many bytes from one on stand in.
-fn lines_of(text: &str, byte: usize, length: usize) -> &str {
-    let end = byte.saturating_add(length);
-    let behind = end.saturating_add(line_from(text, end).len());
-    bytes_at(text, line_start(text, byte), behind).unwrap_or("")
-}
-
-/// The words of the lines that a change of a source is on, before it and behind it: those of the second text are of the changed source.
-fn words_of<'t>(
+/// The lines that a change of a source is on, before it and behind it, unless it parts a character.
+fn lines_around<'t>(
     alloc: Global,
     source: &'t str,
-    changed: &'t str,
     edit: &Edit,
+) -> Result<Option<(&'t str, String)>, AllocError> {
+    let start = line_start(source, edit.byte);
+    let end = edit.byte.saturating_add(edit.length);
+    let behind = end.saturating_add(line_from(source, end).len());
+    let lines = bytes_at(source, start, behind).unwrap_or("");
+    let within = Edit {
+        byte: edit.byte.saturating_sub(start),
+        length: edit.length,
+        text: edit.text.clone()?,
+    };
+    match edited(alloc, lines, &within)? {
+        Some(changed) => Ok(Some((lines, changed))),
+        None => Ok(None),
+    }
+}
+
+/// The words of two texts.
+fn words_of<'t>(
+    alloc: Global,
+    before: &'t str,
+    behind: &'t str,
 ) -> Result<(Vec<&'t str>, Vec<&'t str>), AllocError> {
-    let before = words_in(alloc, lines_of(source, edit.byte, edit.length))?;
-    let behind = words_in(alloc, lines_of(changed, edit.byte, edit.text.len()))?;
-    Ok((before, behind))
+    Ok((words_in(alloc, before)?, words_in(alloc, behind)?))
 }
 
 /// Whether a change of a source keeps its words but for those that its rule is about.
@@ -104,10 +117,10 @@ fn is_kept(
     edit: &Edit,
     about: &About<'_>,
 ) -> Result<bool, AllocError> {
-    let Some(changed) = edited(alloc, source, edit)? else {
+    let Some((lines, changed)) = lines_around(alloc, source, edit)? else {
         return Ok(false);
     };
-    let (before, behind) = words_of(alloc, source, changed.as_str(), edit)?;
+    let (before, behind) = words_of(alloc, lines, changed.as_str())?;
     if about.moves {
         Ok(rearranges(&before, &behind, &about.drops, &about.adds))
     } else {
@@ -169,10 +182,10 @@ pub fn keeps_operators(
     drops: &[&str],
     adds: &[&str],
 ) -> Result<bool, AllocError> {
-    let Some(changed) = edited(alloc, source, edit)? else {
+    let Some((lines, changed)) = lines_around(alloc, source, edit)? else {
         return Ok(false);
     };
-    let (before, behind) = words_of(alloc, source, changed.as_str(), edit)?;
+    let (before, behind) = words_of(alloc, lines, changed.as_str())?;
     let gone = further(alloc, &before, &behind)?;
     let new = further(alloc, &behind, &before)?;
     Ok(

@@ -3,6 +3,7 @@
 use crate::edits::edit_at;
 use crate::fault::{Fault, Range};
 use crate::gate::{about_marks, words_in};
+use crate::ifs::{early_end, note_on_end};
 use crate::places::is_equated;
 use crate::trial::token_of;
 use crate::words::{EQUALITIES, ORDERS, RECKONERS, compares, is_any, is_infix, leads};
@@ -20,7 +21,7 @@ const MOST_PLACES: usize = 12;
 #[derive(Drop)]
 pub struct Mix {
     pub sentence: String,
-    pub note: &'static str,
+    pub note: String,
     pub edit: Option<Edit>,
 }
 
@@ -303,7 +304,7 @@ fn chained(
     let byte = found.span.start.byte;
     Ok(Some(Mix {
         sentence: String::from_str(alloc, "comparisons cannot be chained")?,
-        note: note_on_chain(fault),
+        note: String::from_str(alloc, note_on_chain(fault))?,
         edit: edit_at(alloc, fault, (byte, byte), text, &about)?,
     }))
 }
@@ -330,10 +331,17 @@ fn parted(
         return Ok(None);
     };
     let inner = fault.text_of(range);
+    if let Some(end) = early_end(fault, lead_of(fault, nearest(openings)), range) {
+        return Ok(Some(Mix {
+            sentence: sentence_on(alloc, fault, openings)?,
+            note: note_on_end(alloc, fault, range, end)?,
+            edit: None,
+        }));
+    }
     let text = format!(in alloc; "({inner})")?;
     Ok(Some(Mix {
         sentence: sentence_on(alloc, fault, openings)?,
-        note: "Add parentheses to say how the operators group.",
+        note: String::from_str(alloc, "Add parentheses to say how the operators group.")?,
         edit: edit_at(alloc, fault, bytes, text, &about_marks(alloc))?,
     }))
 }
@@ -349,7 +357,7 @@ fn unparted(
     }
     Ok(Some(Mix {
         sentence: sentence_on(alloc, fault, openings)?,
-        note: "Add parentheses to say how the operators group.",
+        note: String::from_str(alloc, "Add parentheses to say how the operators group.")?,
         edit: None,
     }))
 }

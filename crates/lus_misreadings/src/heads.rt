@@ -4,7 +4,7 @@ use crate::fault::Fault;
 use crate::words::is_any;
 
 /// The place in the head, from one on, at which a name is declared.
-fn declared_from(fault: &Fault<'_>, from: usize, name: &str) -> Option<usize> {
+pub fn declared_from(fault: &Fault<'_>, from: usize, name: &str) -> Option<usize> {
     for place in from..fault.tokens.len() {
         let text = fault.text(place);
         if is_any(text, &["let"]) {
@@ -17,13 +17,16 @@ fn declared_from(fault: &Fault<'_>, from: usize, name: &str) -> Option<usize> {
     None
 }
 
+/// The place of the type that a variable of this name is declared with.
+pub fn type_of(fault: &Fault<'_>, name: &str) -> Option<usize> {
+    let colon = fault.find(declared_from(fault, 0, name)?, &[":"])?;
+    Some(colon.saturating_add(1))
+}
+
 /// Whether a variable of this name is declared with a type.
 fn is_typed(fault: &Fault<'_>, name: &str, of: &str) -> bool {
-    let Some(place) = declared_from(fault, 0, name) else {
-        return false;
-    };
-    match fault.find(place, &[":"]) {
-        Some(colon) => fault.text(colon.saturating_add(1)) == of,
+    match type_of(fault, name) {
+        Some(place) => fault.text(place) == of,
         None => false,
     }
 }

@@ -1,8 +1,8 @@
 //! What other languages have built in, as Lustre writes it.
 
-use crate::calling::call_of;
+use crate::calling::{Call, call_of, calls_in};
 use crate::given::Given;
-use lus_faults::{Edit, extent_of};
+use lus_faults::{Edit, expressions_in, extent_of, joined, slice_of, start_of};
 use lus_syntax::{Expr, Name, Node, Part};
 use std::alloc::AllocError;
 
@@ -34,7 +34,7 @@ pub fn built(text: &str) -> Option<(&'static str, &'static str)> {
             "It is not built in: write `0 fby a`, with a first value of the type of `a`.",
             "",
         )),
-        "clamp" | "limit" | "saturate" => Some((
+        "clamp" | "limit" | "limiter" | "sat" | "saturate" | "saturation" => Some((
             "It is not built in: write `if a < low then low else if a > high then high else a`, or declare a node of this name.",
             "",
         )),
@@ -50,15 +50,41 @@ pub fn built(text: &str) -> Option<(&'static str, &'static str)> {
     }
 }
 
-/// The name that an argument is.
-fn name_in(parts: &[Part], number: usize) -> Option<&str> {
-    match &parts.get(number)?.value {
-        Expr::Name(name) => Some(name.text.as_str()),
-        _ => None,
+/// The most bytes of an argument that is written several times.
+const MOST_BYTES: usize = 40;
+
+/// Whether an expression has no call in it, and is short and on one line.
+fn is_short(given: Given<'_>, expr: &Expr) -> Result<bool, AllocError> {
+    for inner in &expressions_in(given.alloc, expr)? {
+        if matches!(**inner, Expr::Call(_, _)) {
+            return Ok(false);
+        }
     }
+    let text = slice_of(given.source, extent_of(given.source, expr));
+    Ok(text.len() <= MOST_BYTES && !text.contains("\n"))
 }
 
-/// A text with arguments in the places of their digits, if all are names.
+/// The text of an argument that may be written several times, and whether it needs parentheses for that.
+fn argument_in<'t>(
+    given: Given<'t>,
+    parts: &[Part],
+    number: usize,
+) -> Result<Option<(&'t str, bool)>, AllocError> {
+    let Some(part) = parts.get(number) else {
+        return Ok(None);
+    };
+    if !is_short(given, &part.value)? {
+        return Ok(None);
+    }
+    let text = slice_of(given.source, extent_of(given.source, &part.value));
+    let is_plain = matches!(
+        part.value,
+        Expr::Name(_) | Expr::Number(_, _) | Expr::Truth(_, _) | Expr::Parentheses(_, _)
+    );
+    Ok(Some((text, !is_plain)))
+}
+
+/// A text with arguments in the places of their digits, if all are short.
 fn filled(given: Given<'_>, written: &str, parts: &[Part]) -> Result<Option<String>, AllocError> {
     let mut text = String::new(given.alloc);
     for (place, piece) in written.split('$').enumerate() {
@@ -70,10 +96,14 @@ fn filled(given: Given<'_>, written: &str, parts: &[Part]) -> Result<Option<Stri
             Some(("", rest)) => (0, rest),
             _ => (1, piece.strip_prefix('2').unwrap_or("")),
         };
-        let Some(argument) = name_in(parts, number) else {
+        let Some((argument, is_enclosed)) = argument_in(given, parts, number)? else {
             return Ok(None);
         };
-        text.push_str(argument)?;
+        if is_enclosed {
+            write!(text, "({argument})")?;
+        } else {
+            text.push_str(argument)?;
+        }
         text.push_str(rest)?;
     }
     Ok(Some(text))
@@ -84,14 +114,9 @@ fn count_in(written: &str) -> usize {
     if written.contains("$2") { 2 } else { 1 }
 }
 
-/// The change of the call of a name in a node into what it computes; nothing where an argument is no name.
-pub fn built_edit(given: Given<'_>, node: &Node, name: &Name) -> Result<Option<Edit>, AllocError> {
-    let (Some((_, written)), Some(call)) = (
-        built(name.text.as_str()),
-        call_of(given.alloc, node, name)?,
-    ) else {
-        return Ok(None);
-    };
+/// The change of a call into what it computes, as it is written; nothing where it has another count of arguments, or one is long, or a
+/// call.
+fn computed(given: Given<'_>, call: Call<'_>, written: &str) -> Result<Option<Edit>, AllocError> {
     if written.is_empty() || call.parts.len() != count_in(written) {
         return Ok(None);
     }
@@ -110,4 +135,35 @@ pub fn built_edit(given: Given<'_>, node: &Node, name: &Name) -> Result<Option<E
         length: span.length,
         text,
     }))
+}
+
+/// The change of the call of a name in a node, and of all others of this name in its equation, into what they compute; nothing where that
+/// one isn't changed.
+pub fn built_edit(given: Given<'_>, node: &Node, name: &Name) -> Result<Option<Edit>, AllocError> {
+    let (Some((_, written)), Some(call)) = (
+        built(name.text.as_str()),
+        call_of(given.alloc, node, name)?,
+    ) else {
+        return Ok(None);
+    };
+    let line = start_of(&call.equation.right).byte;
+    let mut edits = Vec::new(given.alloc);
+    let (mut end, mut is_changed) = (0, false);
+    for other in &calls_in(given.alloc, node)? {
+        let is_kin = start_of(&other.equation.right).byte == line
+            && other.name.text.as_str() == name.text.as_str();
+        if is_kin
+            && let Some(edit) = computed(given, *other, written)?
+            && edit.byte >= end
+        {
+            is_changed = is_changed || edit.byte == call.name.span.start.byte;
+            end = edit.byte.saturating_add(edit.length);
+            edits.push(edit)?;
+        }
+    }
+    if is_changed {
+        joined(given.alloc, given.source, &edits)
+    } else {
+        Ok(None)
+    }
 }

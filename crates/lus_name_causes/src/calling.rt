@@ -18,7 +18,7 @@ pub struct Call<'t> {
 }
 
 /// The calls of a node, each before those in it.
-fn calls_in(alloc: Global, node: &Node) -> Result<Vec<Call<'_>>, AllocError> {
+pub fn calls_in(alloc: Global, node: &Node) -> Result<Vec<Call<'_>>, AllocError> {
     let mut calls = Vec::new(alloc);
     for equation in &node.equations {
         for expr in &expressions_in(alloc, &equation.right)? {

@@ -1,5 +1,6 @@
 //! What is at the place of a fault of names.
 
+use crate::commented::with_swallowed;
 use crate::doubled::{declared_twice, variable_twice};
 use crate::equations::{left_at, undeclared, undefined, wrong_left};
 use crate::given::Given;
@@ -64,7 +65,10 @@ pub fn name_cause(
         tree,
     };
     match cause_of(alloc, Sought::of(refusal), tree)? {
-        Some(said) => Ok(Some(finding_of(given, &said)?)),
+        Some(said) => {
+            let finding = finding_of(given, &said)?;
+            Ok(Some(with_swallowed(given, finding, Sought::of(refusal))?))
+        }
         None => Ok(None),
     }
 }

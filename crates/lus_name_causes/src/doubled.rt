@@ -27,7 +27,11 @@ fn name_at<'t>(sought: Sought, names: &[&'t Name]) -> Option<&'t Name> {
 /// What is said of the name at a place among others, where another one of them has its text.
 fn twice<'t>(sought: Sought, names: &[&'t Name], sentence: &'static str) -> Option<Said<'t>> {
     let second = name_at(sought, names)?;
-    let note = "Each name is declared once: rename one of the two.";
+    let note = if sentence.contains("value") {
+        "The constructors of all types and the constants share one space of names: rename one of the two, here and where it is used."
+    } else {
+        "Each name is declared once: rename one of the two."
+    };
     for first in names {
         if first.text.as_str() == second.text.as_str() && !sought.is_at(first.span.start) {
             return Some(Said {

@@ -5,9 +5,10 @@ use crate::repair::Repair;
 use crate::said::{Said, told_of};
 use crate::unknown::{Purpose, Use, unknown};
 use lus_faults::{
-    Edit, Role, Sought, bytes_at, expressions_in, extent_of, start_of, variable_named,
+    Edit, Role, Sought, bytes_at, expressions_in, extent_of, joined, start_of, uses_at_once,
+    variable_named,
 };
-use lus_syntax::{Equation, Expr, Name, Node, Prefix, Tree};
+use lus_syntax::{Equation, Expr, Infix, Name, Node, Prefix, Tree};
 use std::alloc::{AllocError, Global};
 
 /// The name on the left of an equation that stands at a place.
@@ -69,20 +70,27 @@ fn is_value(expr: &Expr) -> bool {
     matches!(expr, Expr::Number(_, _) | Expr::Truth(_, _) | Expr::Name(_))
 }
 
-/// Whether an expression has the value of a variable at the instant before.
+/// Whether an expression has the value of a variable at the instant before, and gives it no first value.
 fn remembers(alloc: Global, expr: &Expr, text: &str) -> Result<bool, AllocError> {
+    let mut is_remembered = false;
     for inner in &expressions_in(alloc, expr)? {
-        if let Expr::Unary(Prefix::Pre, _, operand) = *inner
-            && let Expr::Name(name) = &**operand
-            && name.text.as_str() == text
-        {
-            return Ok(true);
+        match *inner {
+            Expr::Binary(Infix::Arrow, _, _) => return Ok(false),
+            Expr::Unary(Prefix::Pre, _, operand) => {
+                if let Expr::Name(name) = &**operand
+                    && name.text.as_str() == text
+                {
+                    is_remembered = true;
+                }
+            }
+            _ => {}
         }
     }
-    Ok(false)
+    Ok(is_remembered)
 }
 
-/// The change of a source that makes one equation of two that follow one another: a first value, and what follows it.
+/// The change of a source that makes one equation of two that follow one another: a first value, and what follows it, with the value of the
+/// instant before where that uses its own variable.
 pub fn joining(
     given: Given<'_>,
     first: &Equation,
@@ -97,11 +105,21 @@ pub fn joining(
     if between.trim() != ";" {
         return Ok(None);
     }
-    Ok(Some(Edit {
+    let text = name.text.as_str();
+    let mut edits = Vec::new(given.alloc);
+    edits.push(Edit {
         byte: end,
         length: start.saturating_sub(end),
         text: String::from_str(given.alloc, " -> ")?,
-    }))
+    })?;
+    for span in &uses_at_once(given.alloc, &later.right, text)? {
+        edits.push(Edit {
+            byte: span.start.byte,
+            length: span.length,
+            text: format!(in given.alloc; "pre {text}")?,
+        })?;
+    }
+    joined(given.alloc, given.source, &edits)
 }
 
 /// What is said of a second equation of a variable, by what the two are: a first value and what follows it, or results of a call.
@@ -129,7 +147,7 @@ fn twice<'t>(
     }
     if is_value(&first.right) && remembers(alloc, &second.right, left.text.as_str())? {
         let note =
-            "An equation holds at every instant. The first value stands before `->`, as in `{} = 0 -> pre {} + 1;`.";
+            "Equations are not run in order, and each holds at every instant: one stands for both, in which the first value is before `->`.";
         let repair = Some(Repair::First(first, second));
         return Ok(Some(Said {
             note,
@@ -137,7 +155,10 @@ fn twice<'t>(
             ..said
         }));
     }
-    Ok(Some(said))
+    Ok(Some(Said {
+        repair: Some(Repair::Two(first, second)),
+        ..said
+    }))
 }
 
 /// What is said of an equation for an input, or of a second one for a variable.
@@ -193,5 +214,8 @@ pub fn undefined(sought: Sought, node: &Node) -> Option<Said<'_>> {
         Role::Output => "the output `{}` has no equation",
         Role::Local => "the local `{}` has no equation",
     };
-    Some(told_of(variable.name, sentence, note))
+    Some(Said {
+        repair: Some(Repair::Comment(node)),
+        ..told_of(variable.name, sentence, note)
+    })
 }

@@ -3,11 +3,13 @@
 use crate::built::built_edit;
 use crate::calling::{arguments_edit, structure_edit};
 use crate::clocks::{note_on_constructor, variables_of};
+use crate::commented::with_comment;
 use crate::declared::push_variables;
 use crate::declaring::{declaration_of, declaring};
+use crate::elsewhere::{negating, with_counts, with_two};
 use crate::equations::joining;
 use crate::given::Given;
-use crate::respelling::{Slip, respelt, slips_beside};
+use crate::respelling::{Slip, respelt, slips_beside, unqualified};
 use lus_faults::{Edit, Finding};
 use lus_syntax::{Equation, Fields, Name, Node, TypeDeclaration};
 use std::alloc::{AllocError, Global};
@@ -27,6 +29,16 @@ pub enum Repair<'t> {
     Structure(&'t Node, &'t [Fields]),
     /// The arguments of a call in the order of its inputs.
     Arguments(&'t Node),
+    /// Nothing, and what is wrong besides with the calls that the name stands in.
+    Counts(&'t Node),
+    /// `not` before a variable, in the place of a name.
+    Negation(&'t Name),
+    /// One equation in the place of two of one variable, where the second uses it.
+    Two(&'t Equation, &'t Equation),
+    /// Nothing, and where an equation of the name stands in a comment.
+    Comment(&'t Node),
+    /// Constructors alone in the place of those behind the name of their type, in a whole equation.
+    Qualifiers(&'t Node),
     /// A first value before `->` and what follows it in one equation, in the place of two.
     First(&'t Equation, &'t Equation),
 }
@@ -134,6 +146,14 @@ pub fn with_repair<'t>(
             Ok(finding.with_edit(structure_edit(given, node, name, groups)?))
         }
         Repair::Arguments(node) => Ok(finding.with_edit(arguments_edit(given, node, name)?)),
+        Repair::Counts(node) => with_counts(given, finding, node, name),
+        Repair::Negation(variable) => Ok(finding.with_edit(negating(given, name, variable)?)),
+        Repair::Two(first, second) => with_two(given, finding, name, first, second),
+        Repair::Comment(node) => with_comment(given, finding, node, name),
+        Repair::Qualifiers(node) => match unqualified(given, node, name)? {
+            Some(edit) => Ok(finding.with_edit(Some(edit))),
+            None => Ok(finding),
+        },
         Repair::First(first, later) => Ok(finding.with_edit(joining(given, first, later)?)),
     }
 }

@@ -2,7 +2,7 @@
 
 use crate::given::Given;
 use crate::unknown::{Purpose, meant_by};
-use lus_faults::{Edit, bytes_at, expressions_in, variable_named};
+use lus_faults::{Edit, expressions_in, joined, variable_named};
 use lus_plain_types::enumeration_of;
 use lus_syntax::{Equation, Expr, Label, Lead, Name, Node, Part, Tree};
 use std::alloc::AllocError;
@@ -127,22 +127,39 @@ pub fn slips_beside<'t>(
 
 /// The change that writes each of some misspelt names as the one that is meant.
 pub fn respelt(given: Given<'_>, slips: &[Slip<'_>]) -> Result<Option<Edit>, AllocError> {
-    let mut text = String::new(given.alloc);
-    let mut start = None;
-    let mut end = 0;
+    let mut edits = Vec::new(given.alloc);
     for slip in slips {
-        let byte = slip.name.span.start.byte;
-        if start.is_none() {
-            start = Some(byte);
-        } else {
-            text.push_str(bytes_at(given.source, end, byte).unwrap_or(""))?;
-        }
-        text.push_str(slip.meant)?;
-        end = slip.name.span.end().byte;
+        edits.push(Edit {
+            byte: slip.name.span.start.byte,
+            length: slip.name.span.length,
+            text: String::from_str(given.alloc, slip.meant)?,
+        })?;
     }
-    let Some(byte) = start else {
-        return Ok(None);
-    };
-    let length = end.saturating_sub(byte);
-    Ok(Some(Edit { byte, length, text }))
+    joined(given.alloc, given.source, &edits)
+}
+
+/// The change that writes constructors alone that stand behind the name of their type, all of the equation in which one does.
+pub fn unqualified(given: Given<'_>, node: &Node, name: &Name) -> Result<Option<Edit>, AllocError> {
+    for equation in &node.equations {
+        let mut is_there = false;
+        let mut edits = Vec::new(given.alloc);
+        for expr in &expressions_in(given.alloc, &equation.right)? {
+            if let Expr::Field(operand, constructor) = *expr
+                && let Expr::Name(of) = &**operand
+                && of.text.as_str() == name.text.as_str()
+            {
+                let byte = of.span.start.byte;
+                is_there = is_there || byte == name.span.start.byte;
+                edits.push(Edit {
+                    byte,
+                    length: constructor.span.end().byte.saturating_sub(byte),
+                    text: constructor.text.clone()?,
+                })?;
+            }
+        }
+        if is_there {
+            return joined(given.alloc, given.source, &edits);
+        }
+    }
+    Ok(None)
 }

@@ -4,6 +4,7 @@ use crate::built::built;
 use crate::calling::{called_structure, named_argument};
 use crate::clocks::constructed;
 use crate::declared::candidates;
+use crate::elsewhere::{called_node, negated, of_another};
 use crate::repair::Repair;
 use crate::said::{Said, told_of};
 use lus_faults::{declared_type, nearest, variable_named};
@@ -25,7 +26,7 @@ pub enum Purpose {
 
 impl Purpose {
     /// The sentence on a name that there is none of.
-    fn sentence(self) -> &'static str {
+    pub fn sentence(self) -> &'static str {
         match self {
             Purpose::Value => "no variable, constant or constructor is named `{}`",
             Purpose::Clock | Purpose::Variable => "no variable of this node is named `{}`",
@@ -102,8 +103,13 @@ fn note_on_constructor(text: &str) -> &'static str {
     }
 }
 
+/// The change that writes all constructors of an equation without the name of their type.
+fn qualifiers_in(node: Option<&Node>) -> Option<Repair<'_>> {
+    Some(Repair::Qualifiers(node?))
+}
+
 /// What is said of a type's name before a constructor.
-fn qualifier<'t>(tree: &Tree, found: Use<'t>) -> Option<Said<'t>> {
+fn qualifier<'t>(tree: &Tree, node: Option<&'t Node>, found: Use<'t>) -> Option<Said<'t>> {
     let field = found.field?;
     if declared_type(tree, found.name.text.as_str()).is_none() {
         return None;
@@ -112,6 +118,7 @@ fn qualifier<'t>(tree: &Tree, found: Use<'t>) -> Option<Said<'t>> {
     Some(Said {
         meant: Some(field.text.as_str()),
         length: field.span.end().byte.saturating_sub(start),
+        repair: qualifiers_in(node),
         ..told_of(
             found.name,
             "`{}` is a type and cannot stand in an expression",
@@ -137,7 +144,8 @@ fn called_variable<'t>(node: Option<&'t Node>, found: Use<'t>) -> Option<Said<'t
 /// What is said of a name that is spelled nearly as no other.
 fn note_on(found: Use<'_>) -> &'static str {
     match found.purpose {
-        Purpose::Value => "Declare it as an input, as a local with an equation, or as a constant.",
+        Purpose::Value =>
+            "Declare it as an input, as a local with an equation, or before the node as a constant, `const {} = ..;`.",
         Purpose::Clock | Purpose::Variable =>
             "A clock is a variable. Declare a local of type `bool` for a constant or a condition.",
         Purpose::Constructor => note_on_constructor(found.name.text.as_str()),
@@ -183,7 +191,7 @@ fn known_elsewhere<'t>(tree: &'t Tree, node: Option<&'t Node>, found: Use<'t>) -
             ..told_of(found.name, found.purpose.sentence(), note)
         });
     }
-    qualifier(tree, found)
+    qualifier(tree, node, found)
         .or(called_structure(tree, node, found))
         .or(called_variable(node, found))
         .or(constructed(tree, node, found))
@@ -195,6 +203,14 @@ fn of_built<'t>(node: Option<&'t Node>, found: Use<'t>) -> Option<Repair<'t>> {
         return None;
     }
     Some(Repair::Built(node?))
+}
+
+/// What else is told of a value that nothing declares.
+fn of_counts<'t>(node: Option<&'t Node>, found: Use<'t>) -> Option<Repair<'t>> {
+    if found.purpose != Purpose::Value {
+        return None;
+    }
+    Some(Repair::Counts(node?))
 }
 
 /// The change that mends all misspelt names of an equation.
@@ -215,13 +231,17 @@ pub fn unknown<'t>(
     if let Some(said) = named_argument(alloc, tree, node, found)? {
         return Ok(Some(said));
     }
+    if let Some(said) = negated(node, found) {
+        return Ok(Some(said));
+    }
     let said = told_of(found.name, found.purpose.sentence(), note_on(found));
     let meant = meant_by(alloc, tree, node, found.name.text.as_str(), found.purpose)?;
     if meant.is_none() {
-        return Ok(Some(Said {
-            repair: of_built(node, found),
+        let known = called_node(tree, found).or(of_another(tree, node, found));
+        return Ok(Some(known.unwrap_or(Said {
+            repair: of_built(node, found).or(of_counts(node, found)),
             ..said
-        }));
+        })));
     }
     Ok(Some(Said {
         note: "Did you mean `{}`?",

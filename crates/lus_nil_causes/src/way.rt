@@ -2,8 +2,10 @@
 
 use crate::first::first_value;
 use crate::flags::Flags;
-use lus_faults::{Edit, Finding, bytes_at, expressions_in, extent_of, slice_of, start_of};
-use lus_syntax::{Expr, Infix, Span, Tree};
+use lus_faults::{
+    Edit, Exchanged, Finding, bytes_at, expressions_in, extent_of, is_fixed, slice_of, start_of,
+};
+use lus_syntax::{Expr, Infix, Prefix, Span, Tree};
 use std::alloc::{AllocError, Global};
 
 /// How many variables a way is followed through, and how many `pre` of one expression are written anew.
@@ -112,25 +114,95 @@ fn is_same(one: Span, other: Span) -> bool {
     one.start.byte == other.start.byte && one.length == other.length
 }
 
-/// How `pre x -> 0` is written with its first value on the left, where the `pre` at a span is the left side of such an arrow.
+/// Whether a span lies in another one.
+fn is_within(inner: Span, outer: Span) -> bool {
+    outer.start.byte <= inner.start.byte && inner.end().byte <= outer.end().byte
+}
+
+/// How `pre x -> 0` is written with its first value on the left, where the `pre` at a span is the left side of such an arrow, or stands in
+/// it before a value that is always the same.
 fn turned(given: Given<'_, '_>, span: Span) -> Result<Option<Edit>, AllocError> {
     for equation in &given.flags.node.equations {
         for expr in &expressions_in(given.alloc, &equation.right)? {
-            if let Expr::Binary(Infix::Arrow, left, right) = expr
-                && is_same(extent_of(given.source, left), span)
-                && is_plain(right)
-            {
-                let before = slice_of(given.source, span);
-                let first = slice_of(given.source, extent_of(given.source, right));
-                return Ok(Some(Edit {
-                    byte: span.start.byte,
-                    length: extent_of(given.source, expr).length,
-                    text: format!(in given.alloc; "{first} -> {before}")?,
-                }));
+            if let Expr::Binary(Infix::Arrow, left, right) = *expr {
+                let side = extent_of(given.source, left);
+                let is_first = is_same(side, span) && is_plain(right)
+                    || is_within(span, side) && is_fixed(given.flags.node, right);
+                if is_first {
+                    let sides = Exchanged {
+                        expr: *expr,
+                        operator: "->",
+                        left,
+                        right,
+                    };
+                    return Ok(Some(sides.edit(given.alloc, given.source)?));
+                }
             }
         }
     }
     Ok(None)
+}
+
+/// Whether a span is the operand of one `pre` behind another that an expression begins with.
+fn is_remembered(given: Given<'_, '_>, expr: &Expr, span: Span) -> bool {
+    let mut at = expr;
+    for _step in 0..MOST_STEPS {
+        match at {
+            Expr::Parentheses(_, operand) | Expr::Unary(Prefix::Pre, _, operand) => at = operand,
+            _ => return false,
+        }
+        if is_same(extent_of(given.source, at), span) {
+            return true;
+        }
+    }
+    false
+}
+
+/// The first value that stands before the `->` behind which the `pre` at a span is remembered again, as `x` in `x -> pre pre x`.
+fn first_before<'t>(given: Given<'_, 't>, span: Span) -> Result<Option<&'t Expr>, AllocError> {
+    for equation in &given.flags.node.equations {
+        for expr in &expressions_in(given.alloc, &equation.right)? {
+            if let Expr::Binary(Infix::Arrow, left, right) = *expr
+                && is_plain(left)
+                && is_remembered(given, right, span)
+            {
+                return Ok(Some(left));
+            }
+        }
+    }
+    Ok(None)
+}
+
+/// How a `pre` at a span is written with the first value that stands before the `->` behind which it is remembered again.
+fn repeated(given: Given<'_, '_>, span: Span) -> Result<Option<Edit>, AllocError> {
+    let Some(first) = first_before(given, span)? else {
+        return Ok(None);
+    };
+    let first = slice_of(given.source, extent_of(given.source, first));
+    let mut text = String::new(given.alloc);
+    push_written(given, &mut text, first, span)?;
+    Ok(Some(Edit {
+        byte: span.start.byte,
+        length: span.length,
+        text,
+    }))
+}
+
+/// Adds how the `pre` at a span is written with a first value that the source has already, and whether there is one.
+fn add_known(given: Given<'_, '_>, span: Span, finding: &mut Finding) -> Result<bool, AllocError> {
+    let (edit, note) = match turned(given, span)? {
+        Some(edit) => (Some(edit), "The first value stands on the left of `->`."),
+        None => (
+            repeated(given, span)?,
+            "The first value here is that of the `->` before it.",
+        ),
+    };
+    if edit.is_none() {
+        return Ok(false);
+    }
+    finding.edit = edit;
+    finding.note = Some(String::from_str(given.alloc, note)?);
+    Ok(true)
 }
 
 /// Adds the `pre` in an expression that have no first value, and how they would be written.
@@ -147,10 +219,7 @@ fn add_memories<'t>(
         let label = format!(in given.alloc; "`{text}` has no value at the first instant")?;
         finding.relate(span, label)?;
     }
-    if let Some(edit) = turned(given, extent_of(given.source, first))? {
-        finding.edit = Some(edit);
-        let note = "The first value stands on the left of `->`.";
-        finding.note = Some(String::from_str(given.alloc, note)?);
+    if add_known(given, extent_of(given.source, first), finding)? {
         return Ok(());
     }
     finding.edit = edit_of(given, &memories)?;

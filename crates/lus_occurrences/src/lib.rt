@@ -7,11 +7,15 @@
 #![tactic(auto)]
 
 mod describing;
+mod kinds;
 mod names;
 mod resolving;
 mod role;
 mod scanner;
 mod scopes;
+mod slots;
 
+pub use kinds::{Clock, Kind};
 pub use names::{Declaration, Names, Occurrence, Use, names_of};
 pub use role::Declared;
+pub use slots::{Opening, Slot};

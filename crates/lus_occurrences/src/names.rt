@@ -9,7 +9,7 @@ ghost use Rattle.lus_occurrences.specs.Occurrences.{StandsAt, StandsFor};
 
 use crate::resolving::resolved;
 use crate::role::Declared;
-use crate::scanner::mentions_of;
+use crate::scanner::mentions_before;
 use crate::scopes::{Scopes, scopes_of};
 use lus_faults::{bytes_at, offset_of};
 use lus_syntax::{RefusalNumber, Span, Token, lex};
@@ -43,12 +43,13 @@ pub struct Occurrence {
 }
 
 /// A source's tokens, its declarations, and the names that stand for them, in the order of the text. A declaration's own name is one of
-/// them.
+/// them. Of each declaration the declared type that it has, as far as it has one: of a type itself, or what it stands for.
 #[derive(Drop)]
 pub struct Names<'t> {
     pub tokens: Vec<Token<'t>>,
     pub declarations: Vec<Declaration>,
     pub occurrences: Vec<Occurrence>,
+    pub(crate) types: Vec<Option<usize>>,
 }
 
 impl<'t> Names<'t> {
@@ -142,13 +143,18 @@ pub fn names_of(alloc: Global, source: &str) -> Result<Names<'_>, AllocError>
     ensures names { IfOk result (λ names. All (StandsFor names.tokens.items names.declarations.items) names.occurrences.items) }
 {
     let tokens = tokens_of(alloc, source)?;
-    let mentions = mentions_of(alloc, &tokens)?;
+    let (mentions, _) = mentions_before(alloc, &tokens, usize::MAX)?;
     let scopes = scopes_of(alloc, &tokens, &mentions)?;
     let occurrences = resolved(alloc, &scopes, &tokens, &mentions)?;
-    let Scopes { declarations, .. } = scopes;
+    let Scopes {
+        declarations,
+        kinds,
+        ..
+    } = scopes;
     Ok(Names {
         tokens,
         declarations,
         occurrences,
+        types: kinds,
     })
 }

@@ -32,7 +32,7 @@ pub(crate) enum Role {
 }
 
 /// A name where it stands: its token, counted from 0, and what it stands as. Of a type that other names are declared with it has the
-/// first of these, and of a field the name whose type has it, as places among all mentions.
+/// first of these, of a field the name whose type has it, and of a branch's label the merged variable, as places among all mentions.
 #[derive(Clone, Copy)]
 pub(crate) struct Mention {
     pub token: usize,

@@ -38,7 +38,8 @@ enum Side {
 #[derive(Clone, Copy)]
 enum Bracket {
     Plain,
-    Branch,
+    /// A branch of the merge whose variable this mention is.
+    Branch(usize),
     Arguments(usize),
     Fields(usize),
 }
@@ -101,7 +102,7 @@ impl Scanner {
             Ahead::Opens(bracket) => bracket,
             Ahead::Anything | Ahead::Member => Bracket::Plain,
         };
-        if let Bracket::Branch = bracket {
+        if let Bracket::Branch(_) = bracket {
             self.side = Side::Label;
         }
         if self.section == Section::Name {
@@ -116,7 +117,7 @@ impl Scanner {
     fn close(&mut self) {
         match self.brackets.pop() {
             Some(Bracket::Arguments(owner) | Bracket::Fields(owner)) => self.last = Some(owner),
-            Some(Bracket::Branch) => self.ahead = Ahead::Opens(Bracket::Branch),
+            Some(Bracket::Branch(merged)) => self.ahead = Ahead::Opens(Bracket::Branch(merged)),
             Some(Bracket::Plain) | None => {}
         }
     }
@@ -229,13 +230,17 @@ impl Scanner {
         }
     }
 
-    /// The mention that a name is a field of, or whose type it is.
+    /// The mention that a name is a field of, or whose type it is; of a branch's label the merged variable.
     fn owner_of(&self, ahead: Ahead, role: Role) -> Option<usize> {
         match role {
             Role::Type if self.section != Section::Equations => Some(self.first),
             Role::Field => match (ahead, self.brackets.last()) {
                 (Ahead::Member, _) => self.last,
                 (_, Some(Bracket::Fields(owner))) => Some(*owner),
+                _ => None,
+            },
+            Role::Label => match (self.side, self.brackets.last()) {
+                (Side::Label, Some(Bracket::Branch(merged))) => Some(*merged),
                 _ => None,
             },
             _ => None,
@@ -247,7 +252,7 @@ impl Scanner {
         match role {
             Role::Tested => {
                 if self.side == Side::Merged {
-                    self.ahead = Ahead::Opens(Bracket::Branch);
+                    self.ahead = Ahead::Opens(Bracket::Branch(place));
                 }
                 self.side = Side::Values;
             }
@@ -256,6 +261,13 @@ impl Scanner {
             Role::Value | Role::Field => self.last = Some(place),
             Role::Declares(_) | Role::Label | Role::Left => {}
         }
+    }
+
+    /// What a name would be that stood here before anything else.
+    fn missing(&self, token: usize) -> Option<Mention> {
+        let role = self.role_of(self.ahead, None)?;
+        let of = self.owner_of(self.ahead, role);
+        Some(Mention { token, role, of })
     }
 
     fn pass_name(
@@ -288,8 +300,13 @@ fn symbol_of(token: &Token<'_>) -> Option<Symbol> {
     }
 }
 
-/// The names of a source that have a role, in the order of the text.
-pub(crate) fn mentions_of(alloc: Global, tokens: &[Token<'_>]) -> Result<Vec<Mention>, AllocError> {
+/// The names of a source that have a role, in the order of the text, and what a name would be that stood before a token, if it had a
+/// role there. A name that stands there counts as one of the others.
+pub(crate) fn mentions_before(
+    alloc: Global,
+    tokens: &[Token<'_>],
+    at: usize,
+) -> Result<(Vec<Mention>, Option<Mention>), AllocError> {
     let mut scanner = Scanner {
         mentions: Vec::new(alloc),
         brackets: Vec::new(alloc),
@@ -299,7 +316,11 @@ pub(crate) fn mentions_of(alloc: Global, tokens: &[Token<'_>]) -> Result<Vec<Men
         first: 0,
         last: None,
     };
+    let mut missing = None;
     for (place, token) in tokens.iter().enumerate() {
+        if place == at {
+            missing = scanner.missing(at);
+        }
         let ahead = scanner.ahead;
         scanner.ahead = Ahead::Anything;
         match token.kind {
@@ -312,6 +333,9 @@ pub(crate) fn mentions_of(alloc: Global, tokens: &[Token<'_>]) -> Result<Vec<Men
             TokenKind::Number(_) => {}
         }
     }
+    if at >= tokens.len() {
+        missing = scanner.missing(at);
+    }
     let Scanner { mentions, .. } = scanner;
-    Ok(mentions)
+    Ok((mentions, missing))
 }

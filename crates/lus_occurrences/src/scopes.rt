@@ -32,7 +32,7 @@ pub(crate) struct Scopes<'t> {
     /// Of what is declared with a type, and of an alias, the token that names it.
     type_tokens: Vec<Option<usize>>,
     /// The type of each declaration, as far as it is known: of a type itself, or what it stands for.
-    kinds: Vec<Option<usize>>,
+    pub kinds: Vec<Option<usize>>,
     types: IndexMap<&'t str, usize>,
     nodes: IndexMap<&'t str, usize>,
     values: IndexMap<&'t str, usize>,

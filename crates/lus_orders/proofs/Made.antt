@@ -1,5 +1,5 @@
 -- Code that makes the instants of each class alone makes them with all that is called, whatever the depth.
-use Rattle.std.proofs.Common.{◌≡◌, ◌∙◌, ℕ, zero, suc, ◌+◌, ◌≤◌, ◌⊎◌, Bool, true, false, List, [], ◌∷◌, length, take, drop, Option, Some, None, slice_get, refl, sym, ap, ap₂, subst, arith}
+use Rattle.std.proofs.Common.{◌≡◌, ◌∙◌, ℕ, zero, suc, ◌+◌, ◌≤◌, Bool, true, false, List, [], ◌∷◌, length, take, drop, Option, Some, None, slice_get, refl, sym, ap, ap₂, subst, arith}
 use Rattle.std.proofs.Math.Logic.{inl, inr}
 use Rattle.std.specs.Prelude.{if◌then◌else◌, option_map}
 use Rattle.std.specs.Option.{IfSome, option_and_then}
@@ -19,7 +19,7 @@ use Rattle.lus_orders.specs.declared.class.Call.{Call}
 use Rattle.lus_orders.specs.declared.class.Class.{Class}
 use Rattle.lus_orders.specs.Orders.{Board, after}
 use Rattle.lus_orders.specs.Classes.{Nests, back, begun, called, calls_of, follows, follows_class, part, passed}
-use Rattle.lus_orders.specs.Made.{AnswersAs, AnswersCall, AnswersIn, AreCallsOf, AreRealised, Begins, CallFaults, CallMade, CallStays, CanAnswer, CodeMakesSteps, FitsClass, IsCallOf, Makes, StateOf, called_in, given_asks, no_calls, read_of, state_in, states_with, width}
+use Rattle.lus_orders.specs.Made.{AnswersAs, AnswersCall, AnswersIn, AreCallsOf, AreRealised, Begins, CanAnswer, CodeMakesSteps, FitsClass, IsCallOf, Makes, StateOf, called_in, given_asks, no_calls, read_of, state_in, states_with, width}
 use Rattle.lus_orders.proofs.Lists.{begun_long}
 use Rattle.lus_orders.proofs.Obeyed.{flat_exec}
 

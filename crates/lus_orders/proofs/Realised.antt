@@ -14,7 +14,7 @@ use Rattle.lus_classes.specs.Classes.{class_at, clock_in}
 use Rattle.lus_classes.specs.Classes.{Class as PlainClass}
 use Rattle.lus_classes.specs.ClassesOf.{InTurn}
 use Rattle.lus_classes.specs.States.{State, States, also_state, state}
-use Rattle.lus_classes.specs.Steps.{Ask, answer_after, first_row, instant_of, run_steps, silent, state_after, states_after}
+use Rattle.lus_classes.specs.Steps.{Ask, answer_after, first_row, instant_of, run_steps, state_after, states_after}
 use Rattle.lus_classes.proofs.Rows.{Agree, is_on_row_same}
 use Rattle.lus_classes.specs.Played.{GivenOnClocks}
 use Rattle.lus_orders.specs.declared.class.Call.{Call}

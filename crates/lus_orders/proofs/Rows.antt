@@ -1,5 +1,5 @@
 -- Parts of rows that are written, and of rows that are the same elsewhere.
-use Rattle.std.proofs.Common.{◌≡◌, ◌∙◌, ℕ, zero, suc, ◌+◌, ◌-◌, ◌<◌, ◌≤◌, List, [], ◌∷◌, ◌++◌, length, take, drop, replicate, None, refl, sym, ap, ap₂, arith}
+use Rattle.std.proofs.Common.{◌≡◌, ◌∙◌, ℕ, zero, suc, ◌+◌, ◌-◌, ◌<◌, ◌≤◌, List, [], ◌∷◌, ◌++◌, length, take, drop, None, refl, sym, ap, ap₂, arith}
 use Rattle.std.proofs.Math.Seq.{drop-append_seam, take-append_seam}
 use Rattle.std.proofs.lemmas.List.{drop-drop, length-drop, length-take-le}
 use Rattle.lus_values.specs.Lists.{item}
@@ -58,23 +58,10 @@ item_taken (suc n) x [] lt = refl
 item_taken (suc n) zero (e ∷ r) lt = refl
 item_taken (suc n) (suc x) (e ∷ r) lt = item_taken n x r (omega arith)
 
-pub item_dropped : (n x : ℕ) (r : Row) → item None (drop n r) x ≡ item None r (n + x)
-item_dropped zero x r = ap (item None r) (let e : x ≡ 0 + x = omega arith in e)
-item_dropped (suc n) x [] = refl
-item_dropped (suc n) x (e ∷ r) = item_dropped n x r ∙ ap (item None (e ∷ r)) (let f : suc (n + x) ≡ suc n + x = omega arith in f)
-
-pub item_part : (from long x : ℕ) (r : Row) → x < long → item None (part from long r) x ≡ item None r (from + x)
-item_part from long x r lt = item_taken long x (drop from r) lt ∙ item_dropped from x r
-
 pub item_front : (x : ℕ) (a b : Row) → x < length a → item None (a ++ b) x ≡ item None a x
 item_front x [] b lt = absurd (omega arith)
 item_front zero (e ∷ a) b lt = refl
 item_front (suc x) (e ∷ a) b lt = item_front x a b (omega arith)
-
-pub item_back : (x : ℕ) (a b : Row) → length a ≤ x → item None (a ++ b) x ≡ item None b (x - length a)
-item_back x [] b le = ap (item None b) (let e : x ≡ x - 0 = omega arith in e)
-item_back zero (e ∷ a) b le = absurd (omega arith)
-item_back (suc x) (e ∷ a) b le = item_back x a b (omega arith) ∙ ap (item None b) (let f : x - length a ≡ suc x - suc (length a) = omega arith in f)
 
 pub item_past : (x : ℕ) (r : Row) → length r ≤ x → item None r x ≡ None
 item_past x [] le = refl
@@ -87,19 +74,3 @@ same_rows [] [] long same = refl
 same_rows [] (e ∷ t) long same = absurd (omega arith)
 same_rows (e ∷ r) [] long same = absurd (omega arith)
 same_rows (e ∷ r) (v ∷ t) long same = ap₂ (λ x l. x ∷ l) (same 0 (omega arith)) (same_rows r t (omega arith) (λ x lt. same (suc x) (omega arith)))
-
--- a row without entries
-abbrev pub empties : ℕ → Row
-empties n = replicate n None
-
-pub no_item : (n x : ℕ) → item None (empties n) x ≡ None
-no_item zero x = refl
-no_item (suc n) zero = refl
-no_item (suc n) (suc x) = no_item n x
-
--- an empty part
-pub empty_row : (n : ℕ) (r : Row) → length r ≡ n → ((x : ℕ) → x < n → item None r x ≡ None) → r ≡ empties n
-empty_row zero [] long none = refl
-empty_row zero (e ∷ r) long none = absurd (omega arith)
-empty_row (suc n) [] long none = absurd (omega arith)
-empty_row (suc n) (e ∷ r) long none = ap₂ (λ x l. x ∷ l) (none 0 (omega arith)) (empty_row n r (omega arith) (λ x lt. none (suc x) (omega arith)))

@@ -1,5 +1,5 @@
 -- Orders that store one cell after another.
-use Rattle.std.proofs.Common.{◌≡◌, ◌∙◌, ℕ, suc, ◌+◌, ◌≤◌, Bool, true, false, List, [], ◌∷◌, length, take, drop, Option, Some, None, slice_set, refl, sym, ap, ap₂, subst, arith}
+use Rattle.std.proofs.Common.{◌≡◌, ◌∙◌, ℕ, suc, ◌+◌, ◌≤◌, Bool, true, false, List, [], ◌∷◌, length, take, drop, Option, Some, slice_set, refl, sym, ap, ap₂, subst, arith}
 use Rattle.std.specs.Prelude.{if◌then◌else◌}
 use Rattle.std.specs.Option.{option_and_then, unwrap_or}
 use Rattle.lus_values.specs.Values.{Value, Row, nil, bool}
@@ -8,17 +8,15 @@ use Rattle.lus_classes.specs.Classes.{Memory}
 use Rattle.lus_classes.specs.Steps.{atom_in, cells_after, flags_after, is_on_row}
 use Rattle.lus_streams.specs.Clocks.{Clock}
 use Rattle.lus_instructions.specs.declared.instruction.Instruction.{Instruction}
-use Rattle.lus_instructions.specs.declared.located.Located.TheVariants as located
-use Rattle.lus_instructions.specs.Executed.{holds_in}
 use Rattle.lus_instructions.specs.Words.{is_nil_entry}
 use Rattle.lus_orders.specs.Looks.{looks}
 use Rattle.lus_orders.specs.declared.order.Order.{Order}
-use Rattle.lus_orders.specs.declared.order.Order.TheVariants as orders
-use Rattle.lus_orders.specs.Orders.{Board, Calls, Next, exec, obey}
+use Rattle.lus_orders.specs.Orders.{Board, Calls, Next, exec}
 use Rattle.lus_orders.specs.Classes.{part}
 use Rattle.lus_orders.specs.Made.{flags_in}
 use Rattle.lus_orders.specs.Segments.{wide}
 use Rattle.lus_orders.specs.Stores.{AreStoresOf, Store, StoresEntry, StoresStore, guarded, store_code, stores_code}
+use Rattle.lus_orders.proofs.Guarded.{guarded_does}
 use Rattle.lus_orders.proofs.Obeyed.{exec_append}
 
 -- what a cell takes, and whether it does
@@ -68,13 +66,6 @@ first : (p : Told) (ps : List Told) (n : Value) (ns : List Value) → written 0 
 first p ps n ns = ap (written 1 ps) (put_first p n ns) ∙ later 0 ps (stored p n) ns
 
 module _ (others : List Instruction) (old : List Value) (calls : Calls) where
-  -- as many are skipped as there are
-  skipped : (k : ℕ) (os : List Order) (b : Board) → exec others old calls os (k + length os) b ≡ Some (k, b)
-  skipped k [] b = ap (λ n. Some (n, b)) (let e : k + 0 ≡ k = omega arith in e)
-  skipped k (o ∷ os) b =
-      ap (λ n. option_and_then {T = ℕ × Board} (λ s. obey others old calls o s.0 s.1) (exec others old calls os n b)) (let e : k + suc (length os) ≡ suc k + length os = omega arith in e)
-      ∙ ap (option_and_then {T = ℕ × Board} (λ s. obey others old calls o s.0 s.1)) (skipped (suc k) os b)
-
   module _ (w : ℕ) where
     -- the cells and the row after a store in cell j
     record Did (j : ℕ) (p : Told) (ns : List Value) (r : Row) (end : Next) : Type 0 where
@@ -85,28 +76,9 @@ module _ (others : List Instruction) (old : List Value) (calls : Calls) where
 
     did : (j : ℕ) (o : Option Test) (body : List Order) (b : Bool) (e : Option Value) (ns : List Value) (r : Row) → looks o r ≡ b
         → StoresEntry others w old r j body e → Did j (b, e) ns r (exec others old calls (guarded o body) 0 (ns, r))
-    did j None body true e ns r look one = record { row = one.row; ended = one.ended calls ns; same = one.same; long = one.long }
-    did j None body false e ns r look one = absurd (cc)
-    did j (Some t) body b e ns r look one = by (holds_in t r) b refl look
-      where
-        by : (h c : Bool) → holds_in t r ≡ h → h ≡ c → Did j (c, e) ns r (exec others old calls (guarded (Some t) body) 0 (ns, r))
-        by true true is same = record {
-          row = one.row;
-          ended = exec_append others old calls body (orders.Act (located.Unless t.variable t.constructor (length body)) ∷ []) 0 (ns, r)
-              ∙ ap (λ c. exec others old calls body (if c then 0 else length body) (ns, r)) is ∙ one.ended calls ns;
-          same = one.same;
-          long = one.long;
-        }
-        by false false is same = record {
-          row = r;
-          ended = exec_append others old calls body (orders.Act (located.Unless t.variable t.constructor (length body)) ∷ []) 0 (ns, r)
-              ∙ ap (λ c. exec others old calls body (if c then 0 else length body) (ns, r)) is
-              ∙ ap (λ n. exec others old calls body n (ns, r)) (let z : length body ≡ 0 + length body = omega arith in z) ∙ skipped 0 body (ns, r);
-          same = refl;
-          long = refl;
-        }
-        by true false is same = absurd (cc)
-        by false true is same = absurd (cc)
+    did j o body true e ns r look one =
+        record { row = one.row; ended = guarded_does others old calls o body ns r true look ∙ one.ended calls ns; same = one.same; long = one.long }
+    did j o body false e ns r look one = record { row = r; ended = guarded_does others old calls o body ns r false look; same = refl; long = refl }
 
     -- and after several, from cell j on
     record AllDid (j : ℕ) (ps : List Told) (ss : List Store) (ns : List Value) (r : Row) : Type 0 where

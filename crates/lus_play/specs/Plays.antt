@@ -2,6 +2,7 @@
 use Rattle.std.specs.Prelude.{◌≡◌, ◌⊎◌, ◌+◌, ◌<◌, ◌++◌, ℕ, Bool, true, false, List, [], ◌∷◌, length, map, flat_map, Option, Some, None}
 use Rattle.std.specs.List.{AllZip}
 use Rattle.lus_devices.specs.Devices.{Bytes, WritesBeginning, with_front, with_text}
+use Rattle.lus_bursts.specs.Syncs.{Safety}
 use Rattle.lus_requests.specs.declared.request.Request.{Request}
 use Rattle.lus_requests.specs.declared.request.Reply.{Reply}
 use Rattle.lus_requests.specs.declared.request.Entry.{Entry}
@@ -56,14 +57,6 @@ pub record Asks (R : Bytes → Option Request → Type 0) (left later : Option B
   pub turned : length lines ≡ turns
   pub counted : turns ≡ length entries + refused
 
--- Such entries are new in a history, and of their texts as much is written as W says.
-pub record Played (R : Bytes → Option Request → Type 0) (says : ℕ → Entry → Bytes) (first : ℕ) (left later : Option Bytes)
-    (h h' : List Entry) (W : Bytes → Type 0) (turns refused : ℕ) : Type 0 where
-  pub entries : List Entry
-  pub asks : Asks R left later entries turns refused
-  pub entered : h' ≡ h ++ entries
-  pub wrote : W (texts says first entries)
-
 -- an unfinished line is one more that is no call
 abbrev pub with_tail : Bytes → ℕ → ℕ
 with_tail [] n = n
@@ -75,35 +68,36 @@ AsksAll R left end entries score =
     (later : Option Bytes) × (tail : Bytes) × (refused : ℕ) × Asks R left later entries (score.entered + refused) refused
     × IsLast tail later end × (score.refused ≡ with_tail tail refused)
 
--- likewise, and the texts of the entries are written
-pub record HasPlayedAll (R : Bytes → Option Request → Type 0) (says : ℕ → Entry → Bytes) (first : ℕ) (left end : Option Bytes)
-    (h h' : List Entry) (w w' : Option Bytes) (score : Score) : Type 0 where
-  pub entries : List Entry
-  pub asks : AsksAll R left end entries score
-  pub entered : h' ≡ h ++ entries
-  pub wrote : w' ≡ with_text w (texts says first entries)
-
 -- some lines were read
 abbrev pub AsksSome : (Bytes → Option Request → Type 0) → Option Bytes → List Entry → Type 0
 AsksSome R left entries = (later : Option Bytes) × (turns refused : ℕ) × Asks R left later entries turns refused
 
--- likewise, and a beginning of the texts of the entries is written
-pub record HasPlayed (R : Bytes → Option Request → Type 0) (says : ℕ → Entry → Bytes) (first : ℕ) (left : Option Bytes)
-    (h h' : List Entry) (w w' : Option Bytes) : Type 0 where
-  pub entries : List Entry
-  pub asks : AsksSome R left entries
-  pub entered : h' ≡ h ++ entries
-  pub wrote : WritesBeginning w w' (texts says first entries)
-
--- ---- with a log
-
--- what the log took begins with this text
+-- what a device took begins with this text
 abbrev pub HasWhole : Option Bytes → Option Bytes → Bytes → Type 0
 HasWhole l l' text = (tail : Bytes) × (l' ≡ with_text l (text ++ tail))
 
--- Some lines were read. A beginning of the texts of their entries is in the log; of some its texts are whole, and of their replies a
--- beginning is written.
-pub record HasPlayedAhead (R : Bytes → Option Request → Type 0) (logs tells : ℕ → Entry → Bytes) (first : ℕ) (left : Option Bytes)
+-- Of entries the first are told, with which the log is safe. What a log has of entries and what is told of them are such texts.
+pub record IsKept (logged tells : List Entry → Bytes) (IsSafe : Safety) (entries : List Entry) (l l' w w' : Option Bytes) : Type 0 where
+  pub told : List Entry
+  pub rest : List Entry
+  pub all : entries ≡ told ++ rest
+  pub safe : (told ≡ []) ⊎ IsSafe l (logged told) l'
+  pub wrote : w' ≡ with_text w (tells told)
+
+-- All lines were read up to the end: the texts of their entries are in the log, and their replies are written; the log is safe with all that
+-- is told.
+pub record HasPlayedAll (R : Bytes → Option Request → Type 0) (logs tells : ℕ → Entry → Bytes) (IsSafe : Safety) (first : ℕ) (left end : Option Bytes)
+    (h h' : List Entry) (l l' w w' : Option Bytes) (score : Score) : Type 0 where
+  pub entries : List Entry
+  pub asks : AsksAll R left end entries score
+  pub entered : h' ≡ h ++ entries
+  pub logged : l' ≡ with_text l (texts logs first entries)
+  pub told : w' ≡ with_text w (texts tells first entries)
+  pub kept : IsKept (texts logs first) (texts tells first) IsSafe entries l l' w w'
+
+-- Some lines were read. A beginning of the texts of their entries is in the log; of some its texts are whole and it is safe with them, and
+-- of their replies a beginning is written.
+pub record HasPlayedAhead (R : Bytes → Option Request → Type 0) (logs tells : ℕ → Entry → Bytes) (IsSafe : Safety) (first : ℕ) (left : Option Bytes)
     (h h' : List Entry) (l l' w w' : Option Bytes) : Type 0 where
   pub told : List Entry
   pub rest : List Entry
@@ -111,43 +105,40 @@ pub record HasPlayedAhead (R : Bytes → Option Request → Type 0) (logs tells 
   pub entered : h' ≡ h ++ (told ++ rest)
   pub logged : WritesBeginning l l' (texts logs first (told ++ rest))
   pub whole : HasWhole l l' (texts logs first told)
+  pub safe : (told ≡ []) ⊎ IsSafe l (texts logs first told) l'
   pub replied : WritesBeginning w w' (texts tells first told)
 
 -- ---- one line
 
--- a line was answered, or it is no call
-abbrev pub Answers : (Bytes → Option Request → Type 0) → (ℕ → Entry → Bytes) → ℕ → Bytes → Bool
-    → List Entry → List Entry → Option Bytes → Option Bytes → Type 0
-Answers R says n line true h h' w w' = (e : Entry) × R line (Some e.request) × (h' ≡ h ++ e ∷ []) × (w' ≡ with_text w (says n e))
-Answers R says n line false h h' w w' = R line None × (h' ≡ h) × (w' ≡ w)
+-- a line was entered and its reply is held, or it is no call
+abbrev pub Answers : (Bytes → Option Request → Type 0) → (logs tells : ℕ → Entry → Bytes) → ℕ → Bytes → Bool
+    → (h h' : List Entry) → (l l' : Option Bytes) → (held held' : Bytes) → Type 0
+Answers R logs tells n line true h h' l l' held held' =
+    (e : Entry) × R line (Some e.request) × (h' ≡ h ++ e ∷ []) × (l' ≡ with_text l (logs n e)) × (held' ≡ held ++ tells n e)
+Answers R logs tells n line false h h' l l' held held' = R line None × (h' ≡ h) × (l' ≡ l) × (held' ≡ held)
 
--- a beginning of an entry's line is in the log, or it is whole there and a beginning of its reply is written
-abbrev pub EntryFails : (ℕ → Entry → Bytes) → (ℕ → Entry → Bytes) → ℕ → Entry → Option Bytes → Option Bytes → Option Bytes → Option Bytes → Type 0
-EntryFails logs tells n e l l' w w' =
-    (WritesBeginning l l' (logs n e) × (w' ≡ w)) ⊎ ((l' ≡ with_text l (logs n e)) × WritesBeginning w w' (tells n e))
-
--- nothing was done, or the call was made and failed to be entered or told
-abbrev pub AnswerFails : (Bytes → Option Request → Type 0) → (ℕ → Entry → Bytes) → (ℕ → Entry → Bytes) → ℕ → Bytes
-    → List Entry → List Entry → Option Bytes → Option Bytes → Option Bytes → Option Bytes → Type 0
-AnswerFails R logs tells n line h h' l l' w w' =
-    ((h' ≡ h) × (l' ≡ l) × (w' ≡ w))
-    ⊎ ((e : Entry) × R line (Some e.request) × (h' ≡ h ++ e ∷ []) × EntryFails logs tells n e l l' w w')
+-- nothing was done, or the call was made, and a beginning of its entry is in the log
+abbrev pub AnswerFails : (Bytes → Option Request → Type 0) → (ℕ → Entry → Bytes) → ℕ → Bytes → (h h' : List Entry) → (l l' : Option Bytes) → Type 0
+AnswerFails R logs n line h h' l l' =
+    ((h' ≡ h) × (l' ≡ l)) ⊎ ((e : Entry) × R line (Some e.request) × (h' ≡ h ++ e ∷ []) × WritesBeginning l l' (logs n e))
 
 abbrev pub turn_of : Bool → Turn
 turn_of true = Entered
 turn_of false = Refused
 
-abbrev pub TurnIs : Turn → (Bytes → Option Request → Type 0) → (ℕ → Entry → Bytes) → ℕ → Option Bytes → Option Bytes
-    → List Entry → List Entry → Option Bytes → Option Bytes → Type 0
-TurnIs Entered R says n left later h h' w w' =
-    (line : Bytes) × (e : Entry) × IsNext line left later × R line (Some e.request) × (h' ≡ h ++ e ∷ []) × (w' ≡ with_text w (says n e))
-TurnIs Refused R says n left later h h' w w' = (line : Bytes) × IsNext line left later × Reads R line None × (h' ≡ h) × (w' ≡ w)
-TurnIs Unfinished R says n left later h h' w w' = (tail : Bytes) × IsLast tail left later × (0 < length tail) × (h' ≡ h) × (w' ≡ w)
-TurnIs Ended R says n left later h h' w w' = IsLast [] left later × (h' ≡ h) × (w' ≡ w)
+abbrev pub TurnIs : Turn → (Bytes → Option Request → Type 0) → (logs tells : ℕ → Entry → Bytes) → ℕ → (left later : Option Bytes)
+    → (h h' : List Entry) → (l l' : Option Bytes) → (held held' : Bytes) → Type 0
+TurnIs Entered R logs tells n left later h h' l l' held held' =
+    (line : Bytes) × (e : Entry) × IsNext line left later × R line (Some e.request) × (h' ≡ h ++ e ∷ []) × (l' ≡ with_text l (logs n e))
+    × (held' ≡ held ++ tells n e)
+TurnIs Refused R logs tells n left later h h' l l' held held' =
+    (line : Bytes) × IsNext line left later × Reads R line None × (h' ≡ h) × (l' ≡ l) × (held' ≡ held)
+TurnIs Unfinished R logs tells n left later h h' l l' held held' =
+    (tail : Bytes) × IsLast tail left later × (0 < length tail) × (h' ≡ h) × (l' ≡ l) × (held' ≡ held)
+TurnIs Ended R logs tells n left later h h' l l' held held' = IsLast [] left later × (h' ≡ h) × (l' ≡ l) × (held' ≡ held)
 
-abbrev pub TurnFails : (Bytes → Option Request → Type 0) → (ℕ → Entry → Bytes) → (ℕ → Entry → Bytes) → ℕ → Option Bytes
-    → List Entry → List Entry → Option Bytes → Option Bytes → Option Bytes → Option Bytes → Type 0
-TurnFails R logs tells n left h h' l l' w w' =
-    ((h' ≡ h) × (l' ≡ l) × (w' ≡ w))
+abbrev pub TurnFails : (Bytes → Option Request → Type 0) → (ℕ → Entry → Bytes) → ℕ → Option Bytes → (h h' : List Entry) → (l l' : Option Bytes) → Type 0
+TurnFails R logs n left h h' l l' =
+    ((h' ≡ h) × (l' ≡ l))
     ⊎ ((later : Option Bytes) × (line : Bytes) × (e : Entry) × IsNext line left later × R line (Some e.request) × (h' ≡ h ++ e ∷ [])
-    × EntryFails logs tells n e l l' w w')
+    × WritesBeginning l l' (logs n e))

@@ -1,55 +1,49 @@
-//! Entering a call in a log, and telling its reply.
+//! Entering a call in the log, and holding its reply.
 
-ghost use Rattle.std.specs.Prelude.{◌≡◌, ℕ, IfOk, OnErr, OnOk};
+ghost use Rattle.std.specs.Prelude.{◌≡◌, ◌++◌, ℕ, IfOk, OnErr, OnOk};
 ghost use Rattle.lus_devices.specs.Devices.{WritesBeginning, with_text};
 ghost use Rattle.lus_program.specs.Programs.{Program};
-ghost use Rattle.lus_play.specs.Plays.{AnswerFails, Answers, EntryFails};
+ghost use Rattle.lus_play.specs.Plays.{AnswerFails, Answers};
 
 use crate::error::PlayError;
 use crate::parts::{Calls, Reacts, Speaks};
-use lus_devices::{Sink, write_all};
+use crate::settling::{hold, write_bytes};
+use lus_devices::Sink;
 use lus_requests::Entry;
 
-/// Writes the text of an entry, all or a beginning of it.
-fn write_entry<T: Speaks, O: Sink>(
-    speaker: &T,
-    number: u64,
-    entry: &Entry,
-    text: &mut String,
-    output: &mut O,
-) -> Result<(), PlayError>
-    ensures whole { OnOk result (O.written output.new ≡ with_text (O.written output.old) (T.says speaker.now number entry.now)) }
-    ensures begun { OnErr result (WritesBeginning (O.written output.old) (O.written output.new) (T.says speaker.now number entry.now)) }
-{
-    text.clear();
-    speaker.push(text, number, entry)?;
-    if write_all(output, text.as_bytes()).is_err() {
-        return Err(PlayError::Write);
-    }
-    Ok(())
-}
-
-/// Enters a call in the log, and then tells its reply.
-fn enter<J: Speaks, T: Speaks, L: Sink, O: Sink>(
+/// Writes the text of an entry in the log, all or a beginning of it.
+fn enter<J: Speaks, L: Sink>(
     scribe: &J,
-    speaker: &T,
     number: u64,
     entry: &Entry,
     text: &mut String,
     log: &mut L,
-    output: &mut O,
 ) -> Result<(), PlayError>
-    ensures logged { OnOk result (L.written log.new ≡ with_text (L.written log.old) (J.says scribe.now number entry.now)) }
-    ensures told { OnOk result (O.written output.new ≡ with_text (O.written output.old) (T.says speaker.now number entry.now)) }
-    ensures begun { OnErr result (EntryFails (J.says scribe.now) (T.says speaker.now) number entry.now
-        (L.written log.old) (L.written log.new) (O.written output.old) (O.written output.new)) }
+    ensures whole { OnOk result (L.written log.new ≡ with_text (L.written log.old) (J.says scribe.now number entry.now)) }
+    ensures begun { OnErr result (WritesBeginning (L.written log.old) (L.written log.new) (J.says scribe.now number entry.now)) }
 {
-    write_entry(scribe, number, entry, text, log)?;
-    write_entry(speaker, number, entry, text, output)
+    text.clear();
+    scribe.push(text, number, entry)?;
+    write_bytes(log, text.as_bytes())
 }
 
-/// Makes the call of a line, which has a number of its own, enters it in the log, and tells its reply; or says that the line is no call.
-pub(crate) fn answer<C: Calls, R: Reacts, J: Speaks, T: Speaks, L: Sink, O: Sink, F: Sink>(
+/// Keeps the reply of an entry until it is written.
+fn hold_reply<T: Speaks>(
+    speaker: &T,
+    number: u64,
+    entry: &Entry,
+    text: &mut String,
+    held: &mut Vec<u8>,
+) -> Result<(), PlayError>
+    ensures { OnOk result (held.new.items ≡ held.old.items ++ T.says speaker.now number entry.now) }
+{
+    text.clear();
+    speaker.push(text, number, entry)?;
+    hold(held, text.as_str())
+}
+
+/// Makes the call of a line, which has a number of its own, enters it in the log, and holds its reply; or says that the line is no call.
+pub(crate) fn answer<C: Calls, R: Reacts, J: Speaks, T: Speaks, L: Sink, F: Sink>(
     calls: &C,
     reactor: &mut R,
     scribe: &J,
@@ -59,16 +53,13 @@ pub(crate) fn answer<C: Calls, R: Reacts, J: Speaks, T: Speaks, L: Sink, O: Sink
     line: &[u8],
     text: &mut String,
     log: &mut L,
-    output: &mut O,
+    held: &mut Vec<u8>,
     faults: &mut F,
 ) -> Result<bool, PlayError>
-    ensures logged { IfOk result (λ is_call. Answers (C.reads calls.now) (J.says scribe.now) number line.now is_call
+    ensures ok { IfOk result (λ is_call. Answers (C.reads calls.now) (J.says scribe.now) (T.says speaker.now) number line.now is_call
+        (R.history reactor.old) (R.history reactor.new) (L.written log.old) (L.written log.new) held.old.items held.new.items) }
+    ensures err { OnErr result (AnswerFails (C.reads calls.now) (J.says scribe.now) number line.now
         (R.history reactor.old) (R.history reactor.new) (L.written log.old) (L.written log.new)) }
-    ensures told { IfOk result (λ is_call. Answers (C.reads calls.now) (T.says speaker.now) number line.now is_call
-        (R.history reactor.old) (R.history reactor.new) (O.written output.old) (O.written output.new)) }
-    ensures err { OnErr result (AnswerFails (C.reads calls.now) (J.says scribe.now) (T.says speaker.now) number line.now
-        (R.history reactor.old) (R.history reactor.new) (L.written log.old) (L.written log.new)
-        (O.written output.old) (O.written output.new)) }
     ensures same { (p : Program) (f : ℕ) → R.is_of reactor.old p f → R.is_of reactor.new p f }
 {
     let Some(request) = calls.read(line)? else {
@@ -80,7 +71,8 @@ pub(crate) fn answer<C: Calls, R: Reacts, J: Speaks, T: Speaks, L: Sink, O: Sink
         request,
         reply,
     };
-    enter(scribe, speaker, number, &entry, text, log, output)?;
+    enter(scribe, number, &entry, text, log)?;
+    hold_reply(speaker, number, &entry, text, held)?;
     calls.remark(at, &entry, faults);
     Ok(true)
 }

@@ -3,7 +3,7 @@ use Rattle.std.specs.Prelude.{◌≡◌, List, [], ◌∷◌, ◌++◌, codes}
 use Rattle.std.specs.Fmt.{decimal}
 use Rattle.std.specs.List.{flat_map}
 use Rattle.lus_syntax.specs.Lexemes.{Text}
-use Rattle.lus_json_faults.specs.Lines.{quoted}
+use Rattle.lus_diagnostics.specs.Quoting.{quoted}
 use Rattle.lus_queries.specs.declared.changes.Change.{Change}
 use Rattle.lus_queries.specs.declared.places.Spot.{Spot}
 use Rattle.lus_queries.specs.Changes.{Make}

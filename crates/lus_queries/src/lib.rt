@@ -5,7 +5,10 @@
 
 mod changes;
 mod colours;
+mod comments;
 mod completion;
+mod context;
+mod hints;
 mod hovering;
 mod occurrences;
 mod outline;
@@ -16,9 +19,10 @@ mod signature;
 pub use changes::Change;
 pub use colours::semantic_tokens;
 pub use completion::completions;
-pub use hovering::{Fact, declared_at, hover};
+pub use hints::inlay_hints;
+pub use hovering::{Fact, Judged, declared_at, expression_hover, hover};
 pub use occurrences::{definition, highlights, references};
 pub use outline::{folds, symbols};
-pub use places::{Lines, Spot, lines_of, spot_at};
+pub use places::{Lines, Spot, lines_of, push_range, push_span};
 pub use renames::{edits, renamable};
 pub use signature::signature_help;

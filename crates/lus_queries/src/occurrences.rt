@@ -1,7 +1,7 @@
 //! What the name at a spot stands for, and where else it stands.
 
 use crate::places::{Lines, Spot, lines_of, push_span};
-use lus_json_faults::push_string;
+use lus_diagnostics::push_string;
 use lus_occurrences::{Names, Use, names_of};
 use lus_syntax::Span;
 use std::alloc::{AllocError, Global};

@@ -1,8 +1,8 @@
 //! The outline of a text: what it declares, and which lines can be folded.
 
 use crate::places::{Lines, lines_of, push_range, push_span};
+use lus_diagnostics::push_string;
 use lus_faults::slice_of;
-use lus_json_faults::push_string;
 use lus_occurrences::{Declaration, Declared, Names, names_of};
 use lus_syntax::{Place, Span, Symbol, Token, TokenKind, Word};
 use std::alloc::{AllocError, Global};
@@ -34,25 +34,24 @@ pub(crate) fn push_token(
     text.push_str(slice_of(source, span))
 }
 
-/// What tells a declaration, on one line and without comments.
-pub(crate) fn detail_of(
-    alloc: Global,
+/// Appends what tells a declaration, on one line and without comments. It has nothing that a string of JSON has to escape.
+pub(crate) fn push_detail(
+    text: &mut String,
     source: &str,
     names: &Names<'_>,
     declaration: usize,
-) -> Result<String, AllocError> {
-    let mut text = String::new(alloc);
+) -> Result<(), AllocError> {
     let mut before = None;
     let (first, end) = names.told(declaration);
     for token in names.tokens.get(first..end).unwrap_or(&[]) {
-        push_token(&mut text, source, before, token.span)?;
+        push_token(text, source, before, token.span)?;
         before = Some(token.span);
     }
-    Ok(text)
+    Ok(())
 }
 
 /// Whether a declaration of a node, a type or a constant begins with a token.
-fn begins(token: &Token<'_>) -> bool {
+pub(crate) fn begins(token: &Token<'_>) -> bool {
     matches!(
         token.kind,
         TokenKind::Keyword(Word::Node | Word::Function | Word::Type | Word::Const)
@@ -123,7 +122,7 @@ fn push_symbol(
     let kind = symbol_kind(declaration.declared);
     let (start, end) = extent_of(names, declaration, span);
     write!(text, ",\"kind\":{kind},\"range\":")?;
-    push_range(text, lines, start, end)?;
+    push_range(text, lines, start.byte, end.byte)?;
     text.push_str(",\"selectionRange\":")?;
     push_span(text, lines, span)
 }
@@ -154,9 +153,9 @@ pub fn symbols(alloc: Global, source: &str) -> Result<String, AllocError> {
         text.push_str(separator(is_first, is_part, is_first_part))?;
         text.push_str("{\"name\":")?;
         push_string(alloc, &mut text, names.name(place))?;
-        text.push_str(",\"detail\":")?;
-        let detail = detail_of(alloc, source, &names, place)?;
-        push_string(alloc, &mut text, detail.as_str())?;
+        text.push_str(",\"detail\":\"")?;
+        push_detail(&mut text, source, &names, place)?;
+        text.push_str("\"")?;
         push_symbol(&mut text, &lines, &names, *declaration, span)?;
         text.push_str(if is_part { "}" } else { ",\"children\":[" })?;
         is_first = false;

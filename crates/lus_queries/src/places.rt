@@ -1,9 +1,9 @@
 //! Positions in a text as editors count them.
 
 ghost use Rattle.std.specs.Prelude.{◌≡◌, ◌+◌, ◌*◌, ◌<◌, ◌≤◌, ◌^◌, length};
-ghost use Rattle.lus_queries.specs.Spots.{begins_with_feed, ends_line, past, spot_after, spot_of, units_at};
+ghost use Rattle.lus_queries.specs.Spots.{begins_with_feed, ends_line, past, spot_after, units_at};
 
-use lus_syntax::{Place, Span};
+use lus_syntax::Span;
 use std::alloc::{AllocError, Global};
 
 /// A line and a character on it. Both count from 0, characters in units of UTF-16.
@@ -83,13 +83,6 @@ pub(crate) fn spot_after(from: Spot, bytes: &[u8], count: usize) -> Spot
         rest = behind;
     }
     spot
-}
-
-/// The spot of a byte of a text, or of its end.
-pub fn spot_at(text: &str, byte: usize) -> Spot
-    ensures { result ≡ spot_of text.now byte }
-{
-    spot_after(START, text.as_bytes(), byte)
 }
 
 /// How many bytes stand between the marks of a text.
@@ -173,15 +166,15 @@ impl Lines<'_> {
     }
 }
 
-/// Appends the range between two places.
-pub(crate) fn push_range(
+/// Appends the range from one byte to another.
+pub fn push_range(
     text: &mut String,
     lines: &Lines<'_>,
-    from: Place,
-    to: Place,
+    from: usize,
+    to: usize,
 ) -> Result<(), AllocError> {
-    let start = lines.spot(from.byte);
-    let end = lines.spot(to.byte);
+    let start = lines.spot(from);
+    let end = lines.spot(to);
     write!(
         text,
         "{{\"start\":{{\"line\":{},\"character\":{}}},\"end\":{{\"line\":{},\"character\":{}}}}}",
@@ -189,11 +182,7 @@ pub(crate) fn push_range(
     )
 }
 
-/// Appends the range of a token.
-pub(crate) fn push_span(
-    text: &mut String,
-    lines: &Lines<'_>,
-    span: Span,
-) -> Result<(), AllocError> {
-    push_range(text, lines, span.start, span.end())
+/// Appends the range of a span.
+pub fn push_span(text: &mut String, lines: &Lines<'_>, span: Span) -> Result<(), AllocError> {
+    push_range(text, lines, span.start.byte, span.end().byte)
 }

@@ -6,7 +6,7 @@ ghost use Rattle.lus_queries.specs.Edits.{Edits, edit_text, edits_text, other_ed
 
 use crate::changes::{Change, changes_between};
 use crate::places::{Spot, lines_of, push_span};
-use lus_json_faults::push_string;
+use lus_diagnostics::push_string;
 use lus_occurrences::names_of;
 use std::alloc::{AllocError, Global};
 

@@ -8,6 +8,7 @@ ghost use Rattle.lus_records.specs.Heads.{HasReadHead, distinct, head_in, head_o
 use crate::cells::{cells_of, record_of};
 use indexmap::IndexSet;
 use lus_devices::{Sink, Source, write_all};
+use lus_faults::nearest;
 use lus_lines::{Reading, read_line};
 use lus_play::PlayError;
 use lus_refusals::lus_culprits::{names_of, push_name, push_names, push_unknown, sentence};
@@ -99,24 +100,27 @@ fn head_in(
     head_of(alloc, columns, &names)
 }
 
-/// Appends which of these names is no column's, or stands twice.
+/// Appends which of these names is no column's, or stands twice. Where no column is near, those that are listed are named.
 fn push_columns(
     text: &mut String,
     alloc: Global,
     columns: &[String],
+    listed: &[String],
     names: &[&[u8]],
 ) -> Result<(), Memory> {
     for (place, name) in names.iter().enumerate() {
         let given = String::from_utf8_lossy(alloc, *name)?;
         if known(columns, *name).is_none() {
             let all = names_of(alloc, columns)?;
+            let is_near = nearest(alloc, &given, &all)?.is_some();
+            let shown = names_of(alloc, if is_near { columns } else { listed })?;
             return push_unknown(
                 text,
                 alloc,
                 "there is no column ",
                 &given,
                 "; the columns are ",
-                &all,
+                &shown,
             );
         }
         if names[..place].contains(name) {
@@ -132,7 +136,7 @@ fn push_columns(
 /// Why these names are no head: one is no column's, or stands twice.
 pub fn head_reason(alloc: Global, columns: &[String], names: &[&[u8]]) -> Result<String, Memory> {
     let mut text = String::new(alloc);
-    push_columns(&mut text, alloc, columns, names)?;
+    push_columns(&mut text, alloc, columns, columns, names)?;
     sentence(alloc, &text, "it has a name that is no column")
 }
 
@@ -141,12 +145,13 @@ fn push_line(
     text: &mut String,
     alloc: Global,
     columns: &[String],
+    listed: &[String],
     line: &[u8],
 ) -> Result<(), Memory> {
     match record_of(alloc, line)? {
         Some(record) => {
             let names = cells_of(alloc, &record)?;
-            push_columns(text, alloc, columns, &names)
+            push_columns(text, alloc, columns, listed, &names)
         }
         None => {
             text.push_str("it is more than one record")?;
@@ -159,19 +164,20 @@ fn push_line(
 fn reason(
     alloc: Global,
     columns: &[String],
+    listed: &[String],
     reading: Reading,
     line: &[u8],
 ) -> Result<String, Memory> {
     let mut text = String::new(alloc);
     match reading {
-        Reading::Line => push_line(&mut text, alloc, columns, line)?,
+        Reading::Line => push_line(&mut text, alloc, columns, listed, line)?,
         Reading::Long => text.push_str("it has more bytes than a line may have")?,
         Reading::Unfinished => text.push_str("the input ends in the middle of it")?,
         Reading::End => {
             text.push_str("the input is empty, and its first line has names of columns")?;
-            if !columns.is_empty() {
+            if !listed.is_empty() {
                 text.push_str(": ")?;
-                let names = names_of(alloc, columns)?;
+                let names = names_of(alloc, listed)?;
                 push_names(&mut text, &names)?;
             }
         }
@@ -183,12 +189,13 @@ fn reason(
 fn explain<F: Sink>(
     alloc: Global,
     columns: &[String],
+    listed: &[String],
     reading: Reading,
     line: &[u8],
     faults: &mut F,
 ) {
     let _ = write_all(faults, b"error S2 line 1: ");
-    match reason(alloc, columns, reading, line) {
+    match reason(alloc, columns, listed, reading, line) {
         Ok(text) => {
             let _ = write_all(faults, text.as_bytes());
         }
@@ -200,10 +207,11 @@ fn explain<F: Sink>(
 }
 
 /// Reads the first line as the head of a table: names of these columns, each at most once. Where it is none, `faults` is given what is
-/// wrong.
+/// wrong, which names the columns that are listed.
 pub fn read_head<S: Source, F: Sink>(
     alloc: Global,
     columns: &[String],
+    listed: &[String],
     input: &mut S,
     faults: &mut F,
 ) -> Result<Option<IndexSet<String>>, PlayError>
@@ -217,6 +225,6 @@ pub fn read_head<S: Source, F: Sink>(
             return Ok(Some(head));
         }
     }
-    explain(alloc, columns, reading, &line, faults);
+    explain(alloc, columns, listed, reading, &line, faults);
     Ok(None)
 }

@@ -1,2 +1,2 @@
-pub mod Statuses
+pub mod Verdicts
 pub use Rattle.lus_cli.proofs as CliProofs

@@ -1,6 +1,2 @@
-pub mod Lines
-pub mod Explanations
-pub mod Details
-pub mod Complaints
-pub mod Verdicts
+pub mod Diagnoses
 pub use Rattle.lus_cli.specs as CliSpecs

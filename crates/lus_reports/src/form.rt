@@ -1,7 +1,7 @@
 //! Where the form of scripts is broken, values of steps aside.
 
 use crate::check::Check;
-use crate::finding::Finding;
+use crate::failed_check::FailedCheck;
 use crate::spot::Spot;
 use lus_scripts::{as_list, is_name, two_members};
 use serde_json::Value;
@@ -35,15 +35,15 @@ fn has_name(value: &Value) -> bool {
 }
 
 /// What is wrong with an instance by itself.
-fn wrong_instance(place: usize, instance: &Value) -> Option<Finding> {
+fn wrong_instance(place: usize, instance: &Value) -> Option<FailedCheck> {
     if !has_keys(instance, "name", "node") {
-        return Some(Finding::at(Spot::Instance(place), Check::Instance));
+        return Some(FailedCheck::at(Spot::Instance(place), Check::Instance));
     }
     if !has_name(instance) {
-        return Some(Finding::at(Spot::OfInstance(place, "name"), Check::Name));
+        return Some(FailedCheck::at(Spot::OfInstance(place, "name"), Check::Name));
     }
     if text_at(instance, "node").is_none() {
-        return Some(Finding::at(Spot::OfInstance(place, "node"), Check::Text));
+        return Some(FailedCheck::at(Spot::OfInstance(place, "node"), Check::Text));
     }
     None
 }
@@ -81,83 +81,83 @@ fn has_call_keys(call: &Value) -> bool {
 }
 
 /// The first row of a burst that is no list.
-fn wrong_row(caller: usize, place: usize, call: &Value) -> Option<Finding> {
+fn wrong_row(caller: usize, place: usize, call: &Value) -> Option<FailedCheck> {
     for (row, items) in items_at(call, "burst").iter().enumerate() {
         if !items.is_array() {
-            return Some(Finding::at(Spot::Row(caller, place, row), Check::List));
+            return Some(FailedCheck::at(Spot::Row(caller, place, row), Check::List));
         }
     }
     None
 }
 
 /// What is wrong with a call by itself.
-fn wrong_call(caller: usize, place: usize, call: &Value) -> Option<Finding> {
+fn wrong_call(caller: usize, place: usize, call: &Value) -> Option<FailedCheck> {
     if !has_call_keys(call) {
-        return Some(Finding::at(Spot::Call(caller, place), Check::Call));
+        return Some(FailedCheck::at(Spot::Call(caller, place), Check::Call));
     }
     if text_at(call, "on").is_none() {
-        return Some(Finding::at(Spot::OfCall(caller, place, "on"), Check::Text));
+        return Some(FailedCheck::at(Spot::OfCall(caller, place, "on"), Check::Text));
     }
     match wrong_ask(call) {
-        Some((key, check)) => Some(Finding::at(Spot::OfCall(caller, place, key), check)),
+        Some((key, check)) => Some(FailedCheck::at(Spot::OfCall(caller, place, key), check)),
         None => wrong_row(caller, place, call),
     }
 }
 
-fn wrong_calls(caller: usize, calls: &[Value]) -> Option<Finding> {
+fn wrong_calls(caller: usize, calls: &[Value]) -> Option<FailedCheck> {
     for (place, call) in calls.iter().enumerate() {
-        let finding = wrong_call(caller, place, call);
-        if finding.is_some() {
-            return finding;
+        let failed = wrong_call(caller, place, call);
+        if failed.is_some() {
+            return failed;
         }
     }
     None
 }
 
 /// What is wrong with a caller by itself.
-fn wrong_caller(place: usize, caller: &Value) -> Option<Finding> {
+fn wrong_caller(place: usize, caller: &Value) -> Option<FailedCheck> {
     if !has_keys(caller, "name", "calls") {
-        return Some(Finding::at(Spot::Caller(place), Check::Caller));
+        return Some(FailedCheck::at(Spot::Caller(place), Check::Caller));
     }
     if !has_name(caller) {
-        return Some(Finding::at(Spot::OfCaller(place, "name"), Check::Name));
+        return Some(FailedCheck::at(Spot::OfCaller(place, "name"), Check::Name));
     }
     match items(caller.get("calls")) {
         Some(calls) => wrong_calls(place, calls),
-        None => Some(Finding::at(Spot::OfCaller(place, "calls"), Check::List)),
+        None => Some(FailedCheck::at(Spot::OfCaller(place, "calls"), Check::List)),
     }
 }
 
-fn wrong_instances(instances: &[Value]) -> Option<Finding> {
+fn wrong_instances(instances: &[Value]) -> Option<FailedCheck> {
     for (place, instance) in instances.iter().enumerate() {
-        let finding = wrong_instance(place, instance);
-        if finding.is_some() {
-            return finding;
+        let failed = wrong_instance(place, instance);
+        if failed.is_some() {
+            return failed;
         }
     }
     None
 }
 
-fn wrong_callers(callers: &[Value]) -> Option<Finding> {
+fn wrong_callers(callers: &[Value]) -> Option<FailedCheck> {
     for (place, caller) in callers.iter().enumerate() {
-        let finding = wrong_caller(place, caller);
-        if finding.is_some() {
-            return finding;
+        let failed = wrong_caller(place, caller);
+        if failed.is_some() {
+            return failed;
         }
     }
     None
 }
 
 /// The first place at which the form of scripts is broken.
-pub(crate) fn wrong_form(scripts: &Value) -> Option<Finding> {
+pub(crate) fn wrong_form(scripts: &Value) -> Option<FailedCheck> {
     if !has_keys(scripts, "instances", "callers") {
-        return Some(Finding::at(Spot::Scripts, Check::Scripts));
+        return Some(FailedCheck::at(Spot::Scripts, Check::Scripts));
     }
     let Some(instances) = items(scripts.get("instances")) else {
-        return Some(Finding::at(Spot::Instances, Check::List));
+        return Some(FailedCheck::at(Spot::Instances, Check::List));
     };
     let Some(callers) = items(scripts.get("callers")) else {
-        return Some(Finding::at(Spot::Callers, Check::List));
+        return Some(FailedCheck::at(Spot::Callers, Check::List));
     };
     wrong_instances(instances).or(wrong_callers(callers))
 }

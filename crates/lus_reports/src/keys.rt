@@ -1,7 +1,7 @@
 //! Which keys of an object of scripts are wrong.
 
 use crate::check::Check;
-use crate::finding::{Finding, Found};
+use crate::failed_check::FailedCheck;
 use crate::form::items_at;
 use crate::spot::Spot;
 use lus_culprits::{push_call_keys, push_keys, sentence};
@@ -10,10 +10,7 @@ use serde_json::Value;
 use std::alloc::Global;
 
 /// The object at a place, where its keys are checked.
-fn object_at(scripts: &Value, found: Option<Found>) -> Option<&Value> {
-    let Some(Found::Json(spot)) = found else {
-        return None;
-    };
+fn object_at(scripts: &Value, spot: Spot) -> Option<&Value> {
     match spot {
         Spot::Scripts => Some(scripts),
         Spot::Instance(at) => items_at(scripts, "instances").get(at),
@@ -42,24 +39,15 @@ fn wrong_keys(alloc: Global, object: &Value, check: Check) -> Result<Option<Stri
     Ok(Some(sentence(alloc, &text, "it has another key")?))
 }
 
-/// A finding, with the key that is wrong where it is about keys.
+/// A failed check, with the key that is wrong where it is about keys.
 pub(crate) fn with_keys(
     alloc: Global,
     scripts: &Value,
-    finding: Finding,
-) -> Result<Finding, Memory> {
-    let Finding {
-        found,
-        check,
-        culprit,
-    } = finding;
-    let culprit = match object_at(scripts, found) {
-        Some(object) => wrong_keys(alloc, object, check)?,
-        None => culprit,
+    failed: FailedCheck,
+) -> Result<FailedCheck, Memory> {
+    let Some(object) = object_at(scripts, failed.spot) else {
+        return Ok(failed);
     };
-    Ok(Finding {
-        found,
-        check,
-        culprit,
-    })
+    let culprit = wrong_keys(alloc, object, failed.check)?;
+    Ok(FailedCheck { culprit, ..failed })
 }

@@ -1,7 +1,7 @@
 //! Where scripts pass a limit, name something twice, or name what there isn't.
 
 use crate::check::Check;
-use crate::finding::Finding;
+use crate::failed_check::FailedCheck;
 use crate::form::{items_at, text_at};
 use crate::spot::Spot;
 use lus_cli::lus_host::Program;
@@ -11,23 +11,23 @@ use lus_values::Memory;
 use serde_json::Value;
 use std::alloc::Global;
 
-fn too_many_calls(callers: &[Value]) -> Option<Finding> {
+fn too_many_calls(callers: &[Value]) -> Option<FailedCheck> {
     for (place, caller) in callers.iter().enumerate() {
         if items_at(caller, "calls").len() > MOST_CALLS {
-            return Some(Finding::at(Spot::OfCaller(place, "calls"), Check::Calls));
+            return Some(FailedCheck::at(Spot::OfCaller(place, "calls"), Check::Calls));
         }
     }
     None
 }
 
 /// The first limit that scripts pass.
-pub(crate) fn too_many(scripts: &Value) -> Option<Finding> {
+pub(crate) fn too_many(scripts: &Value) -> Option<FailedCheck> {
     if items_at(scripts, "instances").len() > MOST_INSTANCES {
-        return Some(Finding::at(Spot::Instances, Check::Instances));
+        return Some(FailedCheck::at(Spot::Instances, Check::Instances));
     }
     let callers = items_at(scripts, "callers");
     if callers.len() > MOST_CALLERS {
-        return Some(Finding::at(Spot::Callers, Check::Callers));
+        return Some(FailedCheck::at(Spot::Callers, Check::Callers));
     }
     too_many_calls(callers)
 }
@@ -54,12 +54,12 @@ fn doubled(named: &[Value]) -> Option<usize> {
 }
 
 /// The first name of an instance, or else of a caller, that stands twice.
-pub(crate) fn doubled_name(scripts: &Value) -> Option<Finding> {
+pub(crate) fn doubled_name(scripts: &Value) -> Option<FailedCheck> {
     if let Some(place) = doubled(items_at(scripts, "instances")) {
-        return Some(Finding::at(Spot::OfInstance(place, "name"), Check::Double));
+        return Some(FailedCheck::at(Spot::OfInstance(place, "name"), Check::Double));
     }
     let place = doubled(items_at(scripts, "callers"))?;
-    Some(Finding::at(Spot::OfCaller(place, "name"), Check::Double))
+    Some(FailedCheck::at(Spot::OfCaller(place, "name"), Check::Double))
 }
 
 /// The first instance whose node the program doesn't have, and its place.
@@ -116,12 +116,12 @@ fn unknown_instance(
     alloc: Global,
     instances: &[Value],
     callers: &[Value],
-) -> Result<Option<Finding>, Memory> {
+) -> Result<Option<FailedCheck>, Memory> {
     for (place, caller) in callers.iter().enumerate() {
         if let Some((at, call)) = unknown_on(instances, items_at(caller, "calls")) {
             let spot = Spot::OfCall(place, at, "on");
             let culprit = no_instance(alloc, instances, call)?;
-            return Ok(Some(Finding::of(spot, Check::On, culprit)));
+            return Ok(Some(FailedCheck::of(spot, Check::On, culprit)));
         }
     }
     Ok(None)
@@ -149,12 +149,12 @@ pub(crate) fn unknown_name(
     alloc: Global,
     program: &Program,
     scripts: &Value,
-) -> Result<Option<Finding>, Memory> {
+) -> Result<Option<FailedCheck>, Memory> {
     let instances = items_at(scripts, "instances");
     if let Some((place, instance)) = unknown_node(program, instances) {
         let spot = Spot::OfInstance(place, "node");
         let culprit = no_node(alloc, program, instance)?;
-        return Ok(Some(Finding::of(spot, Check::Node, culprit)));
+        return Ok(Some(FailedCheck::of(spot, Check::Node, culprit)));
     }
     unknown_instance(alloc, instances, items_at(scripts, "callers"))
 }

@@ -1,8 +1,5 @@
 //! Places in scripts.
 
-ghost use Rattle.std.specs.Prelude.{Some};
-ghost use Rattle.lus_reports.specs.Complaints.{spot_text};
-
 use std::fmt;
 
 /// A place in scripts, by the lists and the keys on the way to it. Entries of lists are numbered from 0.
@@ -35,8 +32,6 @@ pub enum Spot {
 }
 
 impl fmt::Display for Spot {
-    ghost output = { λ spot. Some (spot_text spot) };
-
     fn fmt<W: fmt::Write>(&self, f: &mut fmt::Formatter<W>) -> fmt::Result {
         match self {
             Spot::Scripts => f.write_str("scripts"),

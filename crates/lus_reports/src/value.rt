@@ -1,7 +1,7 @@
 //! Where an item of a step, or of a row of a burst, is no value.
 
 use crate::check::Check;
-use crate::finding::Finding;
+use crate::failed_check::FailedCheck;
 use crate::form::{items_at, text_at};
 use crate::known::place_named;
 use crate::spot::Spot;
@@ -51,12 +51,12 @@ fn wrong_rows(
     caller: usize,
     call: usize,
     rows: &[Value],
-) -> Result<Option<Finding>, Memory> {
+) -> Result<Option<FailedCheck>, Memory> {
     for (row, listed) in rows.iter().enumerate() {
         let listed = as_list(listed).unwrap_or(&[]);
         if let Some((item, culprit)) = wrong_item(scope, listed)? {
             let spot = Spot::ItemOfRow(caller, call, row, item);
-            return Ok(Some(Finding::of(spot, Check::Value, culprit)));
+            return Ok(Some(FailedCheck::of(spot, Check::Value, culprit)));
         }
     }
     Ok(None)
@@ -70,7 +70,7 @@ fn wrong_call(
     caller: usize,
     place: usize,
     call: &Value,
-) -> Result<Option<Finding>, Memory> {
+) -> Result<Option<FailedCheck>, Memory> {
     let scope = Scope {
         alloc,
         program: program.source(),
@@ -80,7 +80,7 @@ fn wrong_call(
     match wrong_item(scope, items_at(call, "step"))? {
         Some((item, culprit)) => {
             let spot = Spot::Item(caller, place, item);
-            Ok(Some(Finding::of(spot, Check::Value, culprit)))
+            Ok(Some(FailedCheck::of(spot, Check::Value, culprit)))
         }
         None => wrong_rows(scope, caller, place, items_at(call, "burst")),
     }
@@ -92,11 +92,11 @@ fn wrong_calls(
     instances: &[Value],
     caller: usize,
     calls: &[Value],
-) -> Result<Option<Finding>, Memory> {
+) -> Result<Option<FailedCheck>, Memory> {
     for (place, call) in calls.iter().enumerate() {
-        let finding = wrong_call(alloc, program, instances, caller, place, call)?;
-        if finding.is_some() {
-            return Ok(finding);
+        let failed = wrong_call(alloc, program, instances, caller, place, call)?;
+        if failed.is_some() {
+            return Ok(failed);
         }
     }
     Ok(None)
@@ -107,13 +107,13 @@ pub(crate) fn wrong_value(
     alloc: Global,
     program: &Program,
     scripts: &Value,
-) -> Result<Option<Finding>, Memory> {
+) -> Result<Option<FailedCheck>, Memory> {
     let instances = items_at(scripts, "instances");
     for (place, caller) in items_at(scripts, "callers").iter().enumerate() {
         let calls = items_at(caller, "calls");
-        let finding = wrong_calls(alloc, program, instances, place, calls)?;
-        if finding.is_some() {
-            return Ok(finding);
+        let failed = wrong_calls(alloc, program, instances, place, calls)?;
+        if failed.is_some() {
+            return Ok(failed);
         }
     }
     Ok(None)

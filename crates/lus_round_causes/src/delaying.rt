@@ -1,48 +1,10 @@
 //! A variable that needs itself, and how its equation is written with the value of the instant before.
 
-use lus_faults::{Edit, bytes_at, resolved, value_of, variable_named};
-use lus_syntax::{Expr, Infix, Node, Part, Prefix, Span, Tree};
+use lus_faults::{
+    Edit, bytes_at, replacing, resolved, slice_of, uses_at_once, value_of, variable_named,
+};
+use lus_syntax::{Expr, Group, Infix, Name, Node, RefusalNumber, Span, Token, Tree, lex};
 use std::alloc::{AllocError, Global};
-
-/// Adds where an expression needs a variable at the same instant, but for the variable of a `merge` or a `when`.
-#[cycle(uses)]
-fn add_uses(uses: &mut Vec<Span>, expr: &Expr, text: &str) -> Result<(), AllocError> {
-    match expr {
-        Expr::Number(_, _) | Expr::Truth(_, _) | Expr::Unary(Prefix::Pre, _, _) => Ok(()),
-        Expr::Name(name) => {
-            if name.text.as_str() == text {
-                uses.push(name.span)?;
-            }
-            Ok(())
-        }
-        Expr::Call(_, parts)
-        | Expr::Structure(_, parts)
-        | Expr::Variadic(_, _, parts)
-        | Expr::Merge(_, _, parts) => add_in_parts(uses, parts, text),
-        Expr::Field(operand, _)
-        | Expr::When(operand, _)
-        | Expr::Parentheses(_, operand)
-        | Expr::Unary(_, _, operand)
-        | Expr::Binary(Infix::Fby, operand, _) => add_uses(uses, operand, text),
-        Expr::Binary(_, left, right) => {
-            add_uses(uses, left, text)?;
-            add_uses(uses, right, text)
-        }
-        Expr::If(_, condition, left, right) => {
-            add_uses(uses, condition, text)?;
-            add_uses(uses, left, text)?;
-            add_uses(uses, right, text)
-        }
-    }
-}
-
-#[cycle(uses)]
-fn add_in_parts(uses: &mut Vec<Span>, parts: &[Part], text: &str) -> Result<(), AllocError> {
-    for part in parts {
-        add_uses(uses, &part.value, text)?;
-    }
-    Ok(())
-}
 
 /// The right side of the equation that defines a variable alone.
 fn right_of<'t>(node: &'t Node, text: &str) -> Option<&'t Expr> {
@@ -63,29 +25,125 @@ fn value_of_variable<'t>(tree: &'t Tree, node: &'t Node, text: &str) -> Option<&
     value_of(resolved(tree, &variable.group.type_name, tree.types.len())?)
 }
 
-/// The change of a source that writes a text in the place of each of some spans, which are in the order of the source.
-fn replacing(
-    alloc: Global,
-    source: &str,
-    uses: &[Span],
-    written: &str,
-) -> Result<Option<Edit>, AllocError> {
-    let Some(first) = uses.first() else {
-        return Ok(None);
-    };
-    let start = first.start.byte;
-    let mut text = String::new(alloc);
-    let mut end = start;
-    for span in uses {
-        text.push_str(bytes_at(source, end, span.start.byte).unwrap_or(""))?;
-        text.push_str(written)?;
-        end = span.end().byte;
+/// The place of a name among some.
+fn place_of(names: &[Name], text: &str) -> Option<usize> {
+    for (place, name) in names.iter().enumerate() {
+        if name.text.as_str() == text {
+            return Some(place);
+        }
     }
-    Ok(Some(Edit {
-        byte: start,
-        length: end.saturating_sub(start),
-        text,
-    }))
+    None
+}
+
+/// The variable of groups at a place.
+fn variable_at(groups: &[Group], place: usize) -> Option<&Name> {
+    let mut left = place;
+    for group in groups {
+        match left.checked_sub(group.names.len()) {
+            Some(rest) => left = rest,
+            None => return group.names.get(left),
+        }
+    }
+    None
+}
+
+/// The output of a called node that a variable of a node is the result of.
+fn output_of<'t>(tree: &'t Tree, node: &'t Node, text: &str) -> Option<(&'t Node, &'t Name)> {
+    for equation in &node.equations {
+        if let Some(place) = place_of(&equation.left, text)
+            && let Expr::Call(called, _) = &equation.right
+        {
+            let owner = tree
+                .nodes
+                .iter()
+                .find(|other| other.name.text.as_str() == called.text.as_str())?;
+            return Some((owner, variable_at(&owner.outputs, place)?));
+        }
+    }
+    None
+}
+
+/// The tokens of a text; none where it has no tokens.
+fn tokens_of(alloc: Global, text: &str) -> Result<Vec<Token<'_>>, AllocError> {
+    match lex(alloc, text) {
+        Ok(tokens) => Ok(tokens),
+        Err(refusal) => {
+            if refusal.number == RefusalNumber::Memory {
+                return Err(AllocError);
+            }
+            Ok(Vec::new(alloc))
+        }
+    }
+}
+
+/// The texts of the tokens of a node, from its name up to the line of its `tel`.
+fn words_of<'t>(alloc: Global, source: &'t str, node: &Node) -> Result<Vec<&'t str>, AllocError> {
+    let rest = bytes_at(source, node.name.span.start.byte, source.len()).unwrap_or("");
+    let end = rest.find("\ntel").unwrap_or(rest.len());
+    let text = bytes_at(rest, 0, end).unwrap_or("");
+    let mut words = Vec::new(alloc);
+    for token in &tokens_of(alloc, text)? {
+        words.push(slice_of(text, token.span))?;
+    }
+    Ok(words)
+}
+
+/// Whether a text is a literal of the type of another one.
+fn is_literal(text: &str, other: &str) -> bool {
+    match (other, text.as_bytes().first()) {
+        ("0", Some(byte)) => byte.is_ascii_digit(),
+        ("false", _) => text == "true" || text == "false",
+        _ => false,
+    }
+}
+
+/// The literal of the type of another one before a `->` or a `fby` of the equation of a variable that has this variable behind it.
+fn first_in<'t>(words: &[&'t str], text: &str, other: &str) -> Option<&'t str> {
+    let (mut two_before, mut before) = ("", "");
+    let mut is_there = false;
+    let mut first = None;
+    for word in words {
+        if is_there && *word == ";" {
+            return None;
+        }
+        if is_there && first.is_some() && *word == text {
+            return first;
+        }
+        if *word == "=" && before == text && (two_before == "let" || two_before == ";") {
+            is_there = true;
+        } else if is_there
+            && first.is_none()
+            && (*word == "->" || *word == "fby")
+            && (two_before == "=" || two_before == "(")
+            && is_literal(before, other)
+        {
+            first = Some(before);
+        }
+        two_before = before;
+        before = *word;
+    }
+    None
+}
+
+/// The first value that the called node gives the output that a variable is the result of, by the text of that node: the tree may have its
+/// head alone.
+pub fn first_of_call<'t>(
+    alloc: Global,
+    source: &'t str,
+    tree: &Tree,
+    node: &Node,
+    text: &str,
+) -> Result<Option<&'t str>, AllocError> {
+    match (
+        output_of(tree, node, text),
+        value_of_variable(tree, node, text),
+    ) {
+        (Some((owner, output)), Some(other)) => {
+            let words = words_of(alloc, source, owner)?;
+            Ok(first_in(&words, output.text.as_str(), other))
+        }
+        _ => Ok(None),
+    }
 }
 
 /// Whether a span is all that stands in its parentheses, or between their commas.
@@ -100,8 +158,8 @@ fn is_alone(source: &str, span: Span) -> bool {
         && (behind.starts_with(")") || behind.starts_with(","))
 }
 
-/// The change of a source by which the value of the instant before is used at a place in that of a variable's own. Nothing where a first
-/// value isn't known.
+/// The change of a source by which the value of the instant before is used at a place in that of a variable's own, with the first value of
+/// the called node that gives it, or else with one of its type. Nothing where there is none.
 pub fn delayed_at(
     alloc: Global,
     source: &str,
@@ -110,7 +168,8 @@ pub fn delayed_at(
     text: &str,
     span: Span,
 ) -> Result<Option<Edit>, AllocError> {
-    let Some(first) = value_of_variable(tree, node, text) else {
+    let known = first_of_call(alloc, source, tree, node, text)?;
+    let Some(first) = known.or(value_of_variable(tree, node, text)) else {
         return Ok(None);
     };
     let text = if is_alone(source, span) {
@@ -137,16 +196,15 @@ pub fn delayed(
     let Some(right) = right_of(node, text) else {
         return Ok(None);
     };
-    let mut uses = Vec::new(alloc);
     if let Expr::Binary(Infix::Arrow, _, later) = right {
-        add_uses(&mut uses, later, text)?;
+        let uses = uses_at_once(alloc, later, text)?;
         let written = format!(in alloc; "pre {text}")?;
         return replacing(alloc, source, &uses, &written);
     }
     let Some(first) = value_of_variable(tree, node, text) else {
         return Ok(None);
     };
-    add_uses(&mut uses, right, text)?;
+    let uses = uses_at_once(alloc, right, text)?;
     let written = format!(in alloc; "({first} -> pre {text})")?;
     replacing(alloc, source, &uses, &written)
 }

@@ -7,7 +7,7 @@ ghost use Rattle.lus_orders.specs.Classes.{CanFollow};
 ghost use Rattle.lus_running.specs.Answering.{AnswersTo, AreLong, left_by};
 
 use crate::beginning::begin;
-use crate::copying::copy_cells;
+use crate::copying::copy_alike;
 use lus_instructions::{Held, Stop, entry_at};
 use lus_orders::{Setting, follow_class};
 use lus_values::{Memory, Row, Value};
@@ -47,7 +47,7 @@ pub fn answer<T: Held>(
         result (map (cell_of T.entry) next.new) }
 {
     let (own, behind) = row.split_at_mut(on.class.own);
-    copy_cells(on.alloc, cells, next)?;
+    copy_alike(on.alloc, cells, next)?;
     begin(on.alloc, inputs, own)?;
     let made = follow_class(on, cells, next, own, behind)?;
     if !made {

@@ -1,10 +1,11 @@
 //! Rows of what an instance keeps, of one kind.
 
-ghost use Rattle.std.specs.Prelude.{◌≡◌, ◌+◌, ◌↔◌, ℕ, IsTrue, IfOk};
-ghost use Rattle.lus_running.specs.Instances.{CanStep, IsBack, IsCopy, IsLong, IsNew, IsReset, MakesStep, exchanged, rows_seen};
+ghost use Rattle.std.specs.Prelude.{◌≡◌, ◌+◌, ◌↔◌, ℕ, IsTrue, IfOk, map};
+ghost use Rattle.lus_instructions.specs.Followed.{cell_of};
+ghost use Rattle.lus_running.specs.Instances.{CanStep, IsBack, IsCopy, IsLong, IsNew, IsReset, Keeps, MakesStep, exchanged, rows_seen};
 
 use crate::answering::answer;
-use crate::copying::copy_cells;
+use crate::copying::{cells_again, copy_cells};
 use crate::filling::{empty_all, fill, filled};
 use lus_instructions::words::Word;
 use lus_instructions::{Held, Stop};
@@ -48,6 +49,20 @@ impl<T: Held> Rows<T> {
         ensures { (g : ℕ) → IsReset (rows_seen T.entry g self.old) (rows_seen T.entry g self.new) }
     {
         empty_all(&mut self.cells);
+    }
+
+    /// Rows that keep these cells, with so many places in the row.
+    pub fn keeping(alloc: Global, cells: &[T], places: usize) -> Result<Rows<T>, Stop>
+        ensures { IfOk result (λ o. (g : ℕ) → Keeps g (map (cell_of T.entry) cells.now) places (rows_seen T.entry g o)) }
+    {
+        let again = cells_again(alloc, cells)?;
+        let next = filled(alloc, cells.len(), Word::Nil)?;
+        let row = filled(alloc, places, Word::Absent)?;
+        Ok(Rows {
+            cells: again,
+            next,
+            row,
+        })
     }
 
     /// Rows of another kind that keep the same, or `Structure` where words can't.

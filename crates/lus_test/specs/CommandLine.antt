@@ -5,9 +5,14 @@ use Rattle.clap.specs.declared.builder.ArgAction.TheVariants.{Append}
 use Rattle.lus_cli.specs.CommandLine.{Text, asked_of, bare, is_set, with_flag, with_required, with_value}
 use Rattle.lus_test.specs.declared.words.Task.{Task}
 
--- the flag `--write`, an option `--node NODE`, and a required PROGRAM
+-- the flags `--write`, `--journal`, `--coverage` and `--json`
+abbrev pub flagged : App
+flagged =
+    with_flag (codes "json") (with_flag (codes "coverage") (with_flag (codes "journal") (with_flag (codes "write") (bare (codes "lus_test")))))
+
+-- these, an option `--node NODE`, and a required PROGRAM
 abbrev pub optioned : App
-optioned = with_required (codes "PROGRAM") (with_value (codes "node") (with_flag (codes "write") (bare (codes "lus_test"))))
+optioned = with_required (codes "PROGRAM") (with_value (codes "node") flagged)
 
 -- these, and one TABLE or more
 abbrev pub the_command : App
@@ -39,6 +44,6 @@ abbrev pub task_seen : Task → Asked
 task_seen t = record {
   program = t.program.now;
   node = option_map (λ name. name.now) t.node;
-  is_written = t.is_written;
+  is_written = t.mode.is_written;
   tables = all_of (codes "TABLE") (rows_of (found_of t.matches));
 }

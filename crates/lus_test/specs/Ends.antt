@@ -1,7 +1,8 @@
 -- When the command ends with status 0.
-use Rattle.std.specs.Prelude.{◌≡◌, ◌⊎◌, ℕ, List, false, [], Option, Some, None, unwrap_or, ⊤}
-use Rattle.std.specs.List.{All}
+use Rattle.std.specs.Prelude.{◌≡◌, ◌⊎◌, ℕ, Bool, List, true, false, [], ◌∷◌, Option, Some, None, codes, eqb, unwrap_or, ⊤}
+use Rattle.std.specs.List.{All, ends_with}
 use Rattle.lus_program.specs.Programs.{Program}
+use Rattle.lus_requests.specs.declared.request.Reply.{Reply}
 use Rattle.lus_devices.specs.Folders.{Known, WithFile}
 use Rattle.lus_cli.specs.CommandLine.{Text}
 use Rattle.lus_cli.specs.MachineSpecs.Formals.{node_named}
@@ -10,7 +11,8 @@ use Rattle.lus_test.specs.Claims.{HaveHeld}
 use Rattle.lus_test.specs.CommandLine.{Asked, asked}
 use Rattle.lus_test.specs.Named.{IsClaim, IsNodeNamed}
 use Rattle.lus_test.specs.Options.{Wanted, asked_claim}
-use Rattle.lus_test.specs.Tests.{Passes}
+use Rattle.lus_test.specs.Tables.{AreRecordsOf}
+use Rattle.lus_test.specs.Tests.{HasTested, Passes}
 use Rattle.lus_test.specs.declared.claims.Claim.{Claim}
 use Rattle.lus_test.specs.declared.finding.Finding.{Finding}
 use Rattle.lus_test.specs.declared.finding.Finding.TheVariants.{Passed, Refused, Differs}
@@ -20,9 +22,25 @@ IsPassed Passed = ⊤
 IsPassed (Refused row) = ⊥
 IsPassed (Differs row cell) = ⊥
 
--- the text of a file passes as a table of the node of this name
-abbrev pub FilePasses : Program → Text → Known → Type 0
-FilePasses p name file = (f : ℕ) × (node_named p name ≡ Some f) × WithFile file (Passes p f)
+-- the rows of a file of this name are objects of JSON
+abbrev pub has_objects : Text → Bool
+has_objects file = ends_with eqb file (codes ".jsonl")
+
+-- The records of a file: those of its text, where that has comma-separated values. Which records objects make is said nowhere.
+abbrev pub HasRecords : Bool → Known → List (List Text) → Type 0
+HasRecords true file records = ⊤
+HasRecords false file records = WithFile file (λ text. AreRecordsOf text records)
+
+-- records pass as a table of the node
+abbrev pub RecordsPass : Program → ℕ → List (List Text) → Type 0
+RecordsPass p f records =
+    (names : List Text) × (rows : List (List Text)) × (replies : List Reply) × (records ≡ names ∷ rows)
+    × HasTested p f names rows replies Passed
+
+-- a file passes as a table of the node of this name: its text, or some records where it has objects
+abbrev pub FilePasses : Program → Text → Bool → Known → Type 0
+FilePasses p name true file = (f : ℕ) × (node_named p name ≡ Some f) × (records : List (List Text)) × RecordsPass p f records
+FilePasses p name false file = (f : ℕ) × (node_named p name ≡ Some f) × WithFile file (Passes p f)
 
 -- the name is the one that is given, if one is
 abbrev pub IsNamed : Option Text → Text → Type 0
@@ -31,8 +49,8 @@ IsNamed (Some given) name = name ≡ given
 
 -- the file of this name passes, as a table of the node that is named, or of one that its own name begins with
 abbrev pub TablePasses : (Text → Known) → Program → Option Text → Text → Type 0
-TablePasses known p (Some name) file = FilePasses p name (known file)
-TablePasses known p None file = (name : Text) × FilePasses p name (known file)
+TablePasses known p (Some name) file = FilePasses p name (has_objects file) (known file)
+TablePasses known p None file = (name : Text) × FilePasses p name (has_objects file) (known file)
 
 -- each table that is asked for passes, unless one is to be written anew
 abbrev pub AllPass : (Text → Known) → Option Asked → Type 0

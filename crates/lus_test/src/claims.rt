@@ -11,7 +11,7 @@ ghost use Rattle.lus_test.specs.Tables.{output_columns};
 use crate::columns::column_kind;
 use crate::finding::column_of;
 use crate::problem::Problem;
-use crate::shell::find_node;
+use crate::trying::find_node;
 use lus_live_instance::lus_machine::{Kind, NodeId, Program};
 use lus_records::all_columns;
 use lus_refusals::lus_culprits::{names_of, push_name, push_names, push_unknown};

@@ -114,6 +114,14 @@ fn push_difference(
 }
 
 impl Report<'_> {
+    /// The name of the node.
+    pub(crate) fn node_name(&self) -> &str {
+        match self.outputs.program.nodes.get(self.node) {
+            Some(node) => node.name.as_str(),
+            None => "",
+        }
+    }
+
     /// The words of the outputs in the reply to a row: none, where it is refused.
     fn told(&self, row: usize) -> Result<Vec<String>, Memory> {
         let alloc = self.outputs.alloc;

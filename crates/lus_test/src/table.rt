@@ -63,7 +63,11 @@ fn empty_reason(alloc: Global, columns: &[String]) -> Result<String, Memory> {
 }
 
 /// The columns of a node's inputs, and behind them those of its outputs.
-fn columns_of(alloc: Global, program: &Arc<Program>, node: NodeId) -> Result<Vec<String>, Memory>
+pub(crate) fn columns_of(
+    alloc: Global,
+    program: &Arc<Program>,
+    node: NodeId,
+) -> Result<Vec<String>, Memory>
     requires { node.0 < length (program_of (arc_value program.now)).nodes }
     ensures { IfOk result (λ v. map string_bytes v.items ≡ columns_of (program_of (arc_value program.now)) node.0) }
 {

@@ -11,7 +11,7 @@ use Rattle.lus_streams.proofs.Lists.{each_left, each_right, each_append}
 use Rattle.lus_classes.specs.Classes.{Memory, Argument, Call}
 use Rattle.lus_normal_form.specs.Laws.{IsChain}
 use Rattle.lus_normal_form.proofs.OneTest.{call_clock, chain_drop, clock_is_chain, renamed_is_chain}
-use Rattle.lus_translation.specs.Forms.{Turn, all_cells, all_firsts, arguments_form, call_first, call_form, calls_form, cells_at, equation_cells, equation_firsts, firsts_at, given_cells, given_firsts, turn_cells, turn_firsts, kept_cells, all_kept_cells, kept_firsts, all_kept_firsts, one_clock}
+use Rattle.lus_translation.specs.Forms.{Turn, all_cells, arguments_form, call_first, call_form, calls_form, cells_at, equation_cells, given_cells, marked, turn_cells, kept_cells, all_kept_cells, kept_firsts, all_kept_firsts, one_clock}
 use Rattle.lus_translation.specs.Laws.{IsFittingCall, IsFittingRight}
 
 module _ (f : Node) where
@@ -58,32 +58,38 @@ module _ (p : Program) (f : Node) where
         let later = all_kept_chained (n + calls e) es ks (suc m) h (each_right OnClock (parts p (numbered n e) k) rest o) in
         (each_append (Chained f) (kept_cells e k) (all_kept_cells es ks (suc m)) first.0 later.0, each_append (IsChain f) (kept_firsts e k) (all_kept_firsts es ks (suc m)) first.1 later.1)
 
-  given_chained : (e : Expression) (k : Clock) (xs : List ℕ) → Each (Chained f) (kept_cells e k) × Each (IsChain f) (kept_firsts e k) → Each (Chained f) (given_cells e k xs) × Each (IsChain f) (given_firsts e k xs)
-  given_chained e k [] h = (tt, tt)
-  given_chained e k (x ∷ xs) h =
-      let later = given_chained e k xs h in
-      (each_append (Chained f) (kept_cells e k) (given_cells e k xs) h.0 later.0, each_append (IsChain f) (kept_firsts e k) (given_firsts e k xs) h.1 later.1)
+  given_chained : (e : Expression) (k : Clock) (xs : List ℕ) → Each (Chained f) (kept_cells e k) → Each (Chained f) (given_cells e k xs)
+  given_chained e k [] h = tt
+  given_chained e k (x ∷ xs) h = each_append (Chained f) (kept_cells e k) (given_cells e k xs) h (given_chained e k xs h)
 
-  turn_chained : (n : ℕ) (e : Expression) (k : Clock) (xs : List ℕ) → IsChain f k → IsFittingRight p f (numbered n e) k → Each (Chained f) (turn_cells e k xs) × Each (IsChain f) (turn_firsts e k xs)
-  turn_chained n (call g i args) k xs h fit = (tt, tt)
-  turn_chained n (literal v) k xs h fit = given_chained (literal v) k xs (kept_chained n (literal v) k h fit.1.on_clock)
-  turn_chained n e k xs h fit = given_chained e k xs (kept_chained n e k h fit.1.on_clock)
+  -- what an equation keeps at a turn, and the clocks of what it marks
+  turn_chained : (n : ℕ) (e : Expression) (k : Clock) → IsChain f k → IsFittingRight p f (numbered n e) k
+      → ((xs : List ℕ) → Each (Chained f) (turn_cells e k xs)) × Each (IsChain f) (kept_firsts e k)
+  turn_chained n (call g i args) k h fit = (λ xs. tt, tt)
+  turn_chained n (literal v) k h fit = (λ xs. given_chained (literal v) k xs tt, tt)
+  turn_chained n e k h fit = let kept = kept_chained n e k h fit.1.on_clock in (λ xs. given_chained e k xs kept.0, kept.1)
 
   module _ (own : (x : ℕ) → IsChain f (clock_of f x)) where
     equation_chained : (n : ℕ) (qs : List StoredEquation) (i : ℕ) (xs : List ℕ) → Each (λ q. IsFittingRight p f q.right (equation_clock f q)) (equations_from n qs)
-        → Each (Chained f) (equation_cells f (slice_get qs i) xs) × Each (IsChain f) (equation_firsts f (slice_get qs i) xs)
-    equation_chained n [] i xs fit = (tt, tt)
-    equation_chained n (q ∷ qs) zero xs fit = turn_chained n (expression_of q.right) (clock_of f (item 0 q.targets.items 0)) xs (own (item 0 q.targets.items 0)) fit.0
+        → Each (Chained f) (equation_cells f (slice_get qs i) xs)
+    equation_chained n [] i xs fit = tt
+    equation_chained n (q ∷ qs) zero xs fit = (turn_chained n (expression_of q.right) (clock_of f (item 0 q.targets.items 0)) (own (item 0 q.targets.items 0)) fit.0).0 xs
     equation_chained n (q ∷ qs) (suc i) xs fit = equation_chained (n + calls (expression_of q.right)) qs i xs fit.1
 
     -- what all turns keep
     pub all_chained : (qs : List StoredEquation) (numbers : List ℕ) (ts : List Turn) → Each (λ q. IsFittingRight p f q.right (equation_clock f q)) (equations_from 0 qs)
-        → Each (Chained f) (all_cells p f qs numbers ts) × Each (IsChain f) (all_firsts p f qs numbers ts)
-    all_chained qs numbers [] fit = (tt, tt)
+        → Each (Chained f) (all_cells p f qs numbers ts)
+    all_chained qs numbers [] fit = tt
     all_chained qs numbers (t ∷ ts) fit =
-        let first = equation_chained 0 qs t.equation t.variables fit in
-        let later = all_chained qs numbers ts fit in
-        (each_append (Chained f) (cells_at p f qs numbers t) (all_cells p f qs numbers ts) first.0 later.0, each_append (IsChain f) (firsts_at p f qs numbers t) (all_firsts p f qs numbers ts) first.1 later.1)
+        each_append (Chained f) (cells_at p f qs numbers t) (all_cells p f qs numbers ts) (equation_chained 0 qs t.equation t.variables fit) (all_chained qs numbers ts fit)
+
+    -- and what all equations mark
+    pub marked_chained : (n : ℕ) (qs : List StoredEquation) → Each (λ q. IsFittingRight p f q.right (equation_clock f q)) (equations_from n qs) → Each (IsChain f) (marked f qs)
+    marked_chained n [] fit = tt
+    marked_chained n (q ∷ qs) fit =
+        let e = expression_of q.right in
+        let k = clock_of f (item 0 q.targets.items 0) in
+        each_append (IsChain f) (kept_firsts e k) (marked f qs) (turn_chained n e k (own (item 0 q.targets.items 0)) fit.0).1 (marked_chained (n + calls e) qs fit.1)
 
     call_chained : (g : ℕ) (args : Operands) (k : Clock) → IsChain f k → IsFittingCall p f g args (base_of (node_at p g) k) → CallChained f (call_form p g args k)
     call_chained g args k h fit =

@@ -1,27 +1,33 @@
 -- A class that keeps the newest tests of the class of a node in normal form is that class.
-use Rattle.std.proofs.Common.{◌≡◌, ◌∙◌, ℕ, zero, suc, ◌+◌, ◌<◌, ◌≤◌, List, [], ◌∷◌, map, length, drop, Option, Some, None, refl, sym, ap, ap₂, subst, arith, drop-cons, drop_of_length-le}
+use Rattle.std.proofs.Common.{◌≡◌, ◌∙◌, ℕ, zero, suc, ◌+◌, ◌<◌, ◌≤◌, List, [], ◌∷◌, map, length, drop, Option, Some, None, slice_get, refl, sym, ap, ap₂, subst, arith, drop-cons, drop_of_length-le}
 use Rattle.std.proofs.Math.ListN.{get_or-map, length-map}
+use Rattle.std.specs.Prelude.{option_map}
+use Rattle.std.proofs.lemmas.Option.{slice_get-map}
 use Rattle.std.proofs.lemmas.Simd.{map-map}
 use Rattle.lus_values.specs.Lists.{item, Each}
 use Rattle.lus_values.specs.declared.test.Test.{Test}
 use Rattle.lus_program.specs.declared.node.Variable.{Variable as StoredVariable}
-use Rattle.lus_program.specs.Programs.{Variable, Node, no_variable}
-use Rattle.lus_program.specs.View.{variable_of}
+use Rattle.lus_program.specs.declared.node.Equation.{Equation as StoredEquation}
+use Rattle.lus_program.specs.Programs.{Variable, Node, Program, no_variable}
+use Rattle.lus_program.specs.View.{equations_from, variable_of}
 use Rattle.lus_streams.specs.Clocks.{Clock, chain, clock_of}
 use Rattle.lus_streams.specs.Equations.{equation_clock}
 use Rattle.lus_streams.specs.OnClock.{test_of}
 use Rattle.lus_classes.specs.Classes.{Memory, Argument, Call, Class}
 use Rattle.lus_normal_form.specs.Laws.{IsChain}
+use Rattle.lus_normal_form.specs.Ready.{IsReady}
 use Rattle.lus_normal_form.proofs.OneTest.{clock_is_chain}
 use Rattle.lus_instructions.specs.declared.class.Cell.{Cell}
 use Rattle.lus_instructions.specs.declared.class.Argument.{Argument as StoredArgument}
 use Rattle.lus_instructions.specs.declared.class.Call.{Call as StoredCall}
 use Rattle.lus_instructions.specs.declared.class.Class.{Class as StoredClass}
 use Rattle.lus_classes.specs.View.{chain_in, clock_from, memory_of, argument_of, call_of, class_of}
-use Rattle.lus_translation.specs.Forms.{all_clocks, class_form, numbers_form}
-use Rattle.lus_translation.specs.Laws.{IsFittingRight, NewestSuffice}
+use Rattle.lus_translation.specs.Forms.{Turn, all_clocks, class_form, flags_of, marked, numbers_form}
+use Rattle.lus_translation.specs.Laws.{HasFlag, IsFittingRight, NewestSuffice}
 use Rattle.lus_translation.specs.Newest.{newest, Tested, TestedCall, cell_seen, argument_seen, call_seen, tested_memory, tested_argument, tested_call, HasNewest}
-use Rattle.lus_translation.proofs.Chains.{Chained, ArgumentChained, CallChained, all_chained, calls_chained}
+use Rattle.lus_translation.proofs.Chains.{Chained, ArgumentChained, CallChained, all_chained, calls_chained, marked_chained}
+use Rattle.lus_translation.specs.Firsts.{place_of}
+use Rattle.lus_translation.proofs.Flags.{Has, all_had}
 use Rattle.lus_translation.proofs.FittingCalls.{ready_rights_fit}
 
 abbrev test : Variable → Option Test
@@ -52,13 +58,18 @@ module _ (f : Node) where
   chain_is x = ap (λ n. chain_in n tests x) (length-map f.variables test) ∙ chains_are (length f.variables) x
 
   -- the older tests are found again
-  found_again : (k : Clock) → IsChain f k → clock_from tests (newest k) ≡ k
+  pub found_again : (k : Clock) → IsChain f k → clock_from tests (newest k) ≡ k
   found_again [] h = refl
   found_again (t ∷ k) h = ap (λ l. t ∷ l) (chain_is t.variable ∙ h.0)
 
-  all_found_again : (ks : List Clock) → Each (IsChain f) ks → map (clock_from tests) (map newest ks) ≡ ks
-  all_found_again [] h = refl
-  all_found_again (k ∷ ks) h = ap₂ (λ l ls. l ∷ ls) (found_again k h.0) (all_found_again ks h.1)
+  -- first-flags stand where they are found by their newest tests
+  flags_are : (fs : List (Option Test)) (ks : List Clock) → Each (IsChain f) ks → Each (Has fs) (map newest ks)
+      → Each (λ k. slice_get (map (clock_from tests) fs) (place_of (newest k) fs) ≡ Some k) ks
+  flags_are fs [] h had = tt
+  flags_are fs (k ∷ ks) h had = (
+    slice_get-map (clock_from tests) fs (place_of (newest k) fs) ∙ ap (option_map (clock_from tests)) had.0 ∙ ap Some (found_again k h.0),
+    flags_are fs ks h.1 had.1,
+  )
 
   newest_declared : (n x : ℕ) → newest (chain (suc n) f.variables x) ≡ test_of f x
   newest_declared n x = by (test_of f x)
@@ -119,17 +130,23 @@ module _ (f : Node) where
 
   -- a class whose clocks are such
   pub same_class : (stored : StoredClass) (c : Class) → ((x : ℕ) → IsChain f (clock_of f x)) → HasNewest f stored c → c.clocks ≡ all_clocks f 0 (length f.variables)
-      → Each (Chained f) c.memories → Each (IsChain f) c.firsts → Each (CallChained f) c.calls → class_of stored ≡ c
-  same_class stored c own h width memories firsts calls =
+      → Each (Chained f) c.memories → Each (CallChained f) c.calls → class_of stored ≡ c
+  same_class stored c own h width memories calls =
       let clocks : map (clock_from stored.tests.items) stored.tests.items ≡ c.clocks = ap (λ ts. map (clock_from ts) ts) h.tests ∙ clocks_again own (length f.variables) 0 (omega arith) ∙ sym width in
       let cells : map (memory_of stored.tests.items) stored.cells.items ≡ c.memories = ap (λ ts. map (memory_of ts) stored.cells.items) h.tests ∙ memories_seen stored.cells.items ∙ ap (map whole_memory) h.cells ∙ memories_again c.memories memories in
-      let flags : map (clock_from stored.tests.items) stored.firsts.items ≡ c.firsts = ap (λ ts. map (clock_from ts) stored.firsts.items) h.tests ∙ ap (map (clock_from tests)) h.firsts ∙ all_found_again c.firsts firsts in
       let asked : map (call_of stored.tests.items) stored.calls.items ≡ c.calls = ap (λ ts. map (call_of ts) stored.calls.items) h.tests ∙ calls_seen stored.calls.items ∙ ap (map whole_call) h.calls ∙ calls_again c.calls calls in
-      λ i. record { inputs = h.inputs i; clocks = clocks i; steps = h.steps i; memories = cells i; firsts = flags i; calls = asked i }
+      λ i. record { inputs = h.inputs i; clocks = clocks i; steps = h.steps i; memories = cells i; firsts = h.firsts i; calls = asked i }
 
 pub newest_tests_suffice : NewestSuffice
 newest_tests_suffice p f ready qs is ts stored h =
     let own = clock_is_chain f ready.on_clocks.declared in
     let fit = ready_rights_fit p f ready in
     let kept = all_chained p f own qs (numbers_form 0 qs) ts (subst (Each (λ q. IsFittingRight p f q.right (equation_clock f q))) is fit) in
-    same_class f stored (class_form p f qs (numbers_form 0 qs) ts) own h refl kept.0 kept.1 (calls_chained p f own f.equations fit)
+    same_class f stored (class_form p f qs (numbers_form 0 qs) ts) own h refl kept (calls_chained p f own f.equations fit)
+
+-- the class that is made has a flag for each clock on which an equation marks a first instant
+pub all_flagged : (p : Program) (f : Node) → IsReady p f → (qs : List StoredEquation) → f.equations ≡ equations_from 0 qs → (ts : List Turn)
+    → Each (HasFlag (class_form p f qs (numbers_form 0 qs) ts) (flags_of f qs)) (marked f qs)
+all_flagged p f ready qs is ts =
+    let fit = subst (Each (λ q. IsFittingRight p f q.right (equation_clock f q))) is (ready_rights_fit p f ready) in
+    flags_are f (flags_of f qs) (marked f qs) (marked_chained p f (clock_is_chain f ready.on_clocks.declared) 0 qs fit) (all_had [] (map newest (marked f qs)))

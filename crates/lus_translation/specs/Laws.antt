@@ -1,5 +1,5 @@
 -- What the codes and calls that are made belong to.
-use Rattle.std.specs.Prelude.{◌≡◌, ℕ, ◌<◌, ◌≤◌, List, ◌++◌, length}
+use Rattle.std.specs.Prelude.{◌≡◌, ℕ, ◌<◌, ◌≤◌, List, ◌++◌, Option, Some, length, slice_get}
 use Rattle.lus_values.specs.Lists.{Each}
 use Rattle.lus_program.specs.declared.node.Equation.{Equation as StoredEquation}
 use Rattle.lus_program.specs.View.{equations_from}
@@ -16,7 +16,9 @@ use Rattle.lus_normal_form.specs.Computed.{HaveFormals}
 use Rattle.lus_normal_form.specs.Ready.{Declared, IsReady, operand_size}
 use Rattle.lus_instructions.specs.declared.class.Class.{Class as StoredClass}
 use Rattle.lus_classes.specs.View.{class_of}
-use Rattle.lus_translation.specs.Newest.{HasNewest}
+use Rattle.lus_values.specs.declared.test.Test.{Test}
+use Rattle.lus_translation.specs.Firsts.{place_of}
+use Rattle.lus_translation.specs.Newest.{HasNewest, newest}
 use Rattle.lus_translation.specs.Forms.{Turn, class_form, code_form, call_form, calls_form, kept_cells, kept_firsts, numbers_form}
 
 -- a list has these items from place n on
@@ -31,11 +33,15 @@ pub record IsFitting (p : Program) (f : Node) (e : Expression) (k : Clock) : Typ
   pub on_clock : Each (PartOnClock p f) (parts p e k)
   pub known : Each (Uses (Known f) (GivesOutput p f)) (parts p e k)
 
+-- a class has a first-flag of this clock, where first-flags are those of clocks with these newest tests
+abbrev pub HasFlag : Class → List (Option Test) → Clock → Type 0
+HasFlag c fs k = slice_get c.firsts (place_of (newest k) fs) ≡ Some k
+
 -- the code of an expression in normal form belongs to it, in each class that keeps what it wants
 abbrev pub CodesBelong : Type 0
 CodesBelong =
-    (p : Program) (f : Node) (c : Class) (m n : ℕ) (e : Expression) (k : Clock) → IsSimple e → IsFitting p f e k
-    → HasFrom c.memories m (kept_cells e k) → HasFrom c.firsts n (kept_firsts e k) → IsCode p f c e (code_form m n e k) k
+    (p : Program) (f : Node) (c : Class) (m : ℕ) (fs : List (Option Test)) (e : Expression) (k : Clock) → IsSimple e → IsFitting p f e k
+    → HasFrom c.memories m (kept_cells e k) → Each (HasFlag c fs) (kept_firsts e k) → IsCode p f c e (code_form m fs e k) k
 
 -- the arguments of a call in normal form with a base are on the clocks of all formals and name variables of the node
 pub record IsFittingCall (p : Program) (f : Node) (g : ℕ) (args : Operands) (base : Clock) : Type 0 where

@@ -8,7 +8,7 @@ use Rattle.lus_instructions.specs.declared.class.Cell.{Cell}
 use Rattle.lus_instructions.specs.declared.class.Argument.{Argument as StoredArgument}
 use Rattle.lus_instructions.specs.declared.class.Call.{Call as StoredCall}
 use Rattle.lus_instructions.specs.declared.class.Class.{Class as StoredClass}
-use Rattle.lus_classes.specs.View.{atom_of, steps_of}
+use Rattle.lus_classes.specs.View.{atom_of, clock_from, steps_of}
 
 abbrev pub newest : Clock → Option Test
 newest [] = None
@@ -51,5 +51,5 @@ pub record HasNewest (f : Node) (stored : StoredClass) (c : Class) : Type 0 wher
   pub tests : stored.tests.items ≡ map (λ (v : Variable). v.test) f.variables
   pub steps : steps_of stored.steps.items ≡ c.steps
   pub cells : map cell_seen stored.cells.items ≡ map tested_memory c.memories
-  pub firsts : stored.firsts.items ≡ map newest c.firsts
+  pub firsts : map (clock_from stored.tests.items) stored.firsts.items ≡ c.firsts
   pub calls : map call_seen stored.calls.items ≡ map tested_call c.calls

@@ -12,7 +12,7 @@ use crate::atom::atom_of;
 use crate::clock::{clock_at, newest, without_tests};
 use crate::numbers::number_of;
 use lus_clocks::{inputs_at, variables_at};
-use lus_instructions::{Argument, Call, Extent};
+use lus_instructions::{Argument, Call};
 use lus_program::{Expr, Form, Program, Test, Variable};
 use lus_values::Memory;
 use std::alloc::Global;
@@ -114,7 +114,7 @@ fn base_of(
     without_tests(alloc, output.len(), clock)
 }
 
-/// The call of a node on the right side of an equation on a clock, without room for it yet.
+/// The call of a node on the right side of an equation on a clock.
 pub fn call_of(
     alloc: Global,
     program: &Program,
@@ -131,13 +131,5 @@ pub fn call_of(
         node: called,
         base: newest(&base),
         arguments,
-        offset: NO_ROOM,
-        extent: NO_ROOM,
     })
 }
-
-/// No room at all.
-const NO_ROOM: Extent = Extent {
-    cells: 0,
-    firsts: 0,
-};

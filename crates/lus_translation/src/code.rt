@@ -1,69 +1,76 @@
 //! Codes of expressions.
 
-ghost use Rattle.std.specs.Prelude.{◌≡◌, ◌∷◌, [], IfOk, OnOk};
+ghost use Rattle.std.specs.Prelude.{◌≡◌, IfOk, OnOk};
 ghost use Rattle.lus_program.specs.View.{expression_of, operands_of};
 ghost use Rattle.lus_streams.specs.Clocks.{branch_clock};
-ghost use Rattle.lus_translation.specs.Forms.{cell_for, kept_cells, all_kept_cells, kept_firsts, all_kept_firsts, one_clock};
-ghost use Rattle.lus_translation.specs.Building.{next_cell, next_first, KeepsCells, KeepsFirsts, IsCodeFrom, AreCodesFrom, AreBranchesFrom};
+ghost use Rattle.lus_translation.specs.Forms.{cell_for, kept_cells, all_kept_cells, one_clock};
+ghost use Rattle.lus_translation.specs.Firsts.{place_of};
+ghost use Rattle.lus_translation.specs.Newest.{newest as newest_of};
+ghost use Rattle.lus_translation.specs.Building.{next_cell, KeepsCells, IsCodeFrom, AreCodesFrom, AreBranchesFrom};
 
 use crate::atom::{atom_of, formula_of_atom};
 use crate::clock::{newest, with_test};
-use crate::kept::{Kept, keep_cell, keep_first};
+use crate::firsts::Firsts;
 use crate::numbers::number_of;
-use lus_instructions::Formula;
+use lus_instructions::{Cell, Formula};
 use lus_program::{Expr, Form, Test};
 use lus_values::{Memory, Value, copy};
 use std::alloc::Global;
 
 /// A cell for an operand on a clock: its number.
-fn cell_of(alloc: Global, operand: &Expr, clock: &[Test], kept: &mut Kept) -> Result<u32, Memory>
-    ensures number { IfOk result (λ n. n ≡ next_cell kept.old) }
-    ensures cells { OnOk result (KeepsCells kept.old kept.new (cell_for (expression_of operand.now) clock.now)) }
-    ensures firsts { OnOk result (kept.new.firsts ≡ kept.old.firsts) }
+fn cell_of(
+    alloc: Global,
+    operand: &Expr,
+    clock: &[Test],
+    cells: &mut Vec<Cell>,
+) -> Result<u32, Memory>
+    ensures number { IfOk result (λ n. n ≡ next_cell cells.old.items) }
+    ensures cells { OnOk result (KeepsCells cells.old.items cells.new.items (cell_for (expression_of operand.now) clock.now)) }
 {
-    let atom = atom_of(alloc, operand)?;
-    keep_cell(newest(clock), atom, kept)
+    let number = number_of(cells.len())?;
+    let test = newest(clock);
+    let operand = atom_of(alloc, operand)?;
+    cells.push(Cell { test, operand })?;
+    Ok(number)
 }
 
-/// A first-flag on a clock: its number.
-fn first_of(clock: &[Test], kept: &mut Kept) -> Result<u32, Memory>
-    ensures number { IfOk result (λ n. n ≡ next_first kept.old) }
-    ensures firsts { OnOk result (KeepsFirsts kept.old kept.new (clock.now ∷ [])) }
-    ensures cells { OnOk result (kept.new.cells ≡ kept.old.cells) }
+/// The number of the first-flag of a clock.
+fn first_of(clock: &[Test], firsts: &Firsts) -> Result<u32, Memory>
+    ensures { IfOk result (λ n. n ≡ place_of (newest_of clock.now) firsts.now) }
 {
-    keep_first(newest(clock), kept)
+    number_of(firsts.place(newest(clock)))
 }
 
-/// The code of an expression in normal form, which is no call, on a clock. Its cells and first-flags are numbered in the order
-/// of the text, a flag before those of its operands, a cell after them.
+/// The code of an expression in normal form, which is no call, on a clock. Its cells are numbered in the order of the
+/// text, those of its operands first.
 #[cycle(codes)]
 pub fn code_of(
     alloc: Global,
     expr: &Expr,
     clock: &[Test],
-    kept: &mut Kept,
+    firsts: &Firsts,
+    cells: &mut Vec<Cell>,
 ) -> Result<Formula, Memory>
-    ensures code { IfOk result (λ d. IsCodeFrom kept.old (expression_of expr.now) clock.now d) }
-    ensures cells { OnOk result (KeepsCells kept.old kept.new (kept_cells (expression_of expr.now) clock.now)) }
-    ensures firsts { OnOk result (KeepsFirsts kept.old kept.new (kept_firsts (expression_of expr.now) clock.now)) }
+    ensures code { IfOk result (λ d. IsCodeFrom cells.old.items firsts.now (expression_of expr.now) clock.now d) }
+    ensures cells { OnOk result (KeepsCells cells.old.items cells.new.items (kept_cells (expression_of expr.now) clock.now)) }
 {
     match &expr.form {
         Form::Literal(value) => Ok(Formula::Fixed(copy(alloc, value)?)),
         Form::Variable(variable) => Ok(Formula::Fetch(*variable)),
         Form::Operate(operator, operands) => {
-            let codes = codes_of(alloc, operands, clock, kept)?;
+            let codes = codes_of(alloc, operands, clock, firsts, cells)?;
             Ok(Formula::Compute(*operator, codes))
         }
-        Form::Pre(operand) => Ok(Formula::Recall(cell_of(alloc, operand, clock, kept)?)),
+        Form::Pre(operand) => Ok(Formula::Recall(cell_of(alloc, operand, clock, cells)?)),
         Form::Arrow(first, later) => {
-            let flag = first_of(clock, kept)?;
-            let first = Box::new(alloc, code_of(alloc, first, clock, kept)?)?;
-            let later = Box::new(alloc, code_of(alloc, later, clock, kept)?)?;
+            let flag = first_of(clock, firsts)?;
+            let first = Box::new(alloc, code_of(alloc, first, clock, firsts, cells)?)?;
+            let later = Box::new(alloc, code_of(alloc, later, clock, firsts, cells)?)?;
             Ok(Formula::Choose(flag, first, later))
         }
         Form::When(_, operand) => Ok(formula_of_atom(atom_of(alloc, operand)?)),
         Form::Merge(variable, branches) => {
-            let codes = branch_codes_of(alloc, *variable, branches, clock, kept)?;
+            let codes = branch_codes_of(alloc, *variable, branches, clock, firsts, cells)?;
             Ok(Formula::Select(*variable, codes))
         }
         Form::Call(_, _) => Ok(Formula::Fixed(Value::Nil)),
@@ -76,15 +83,16 @@ fn codes_of(
     alloc: Global,
     operands: &[Expr],
     clock: &[Test],
-    kept: &mut Kept,
+    firsts: &Firsts,
+    cells: &mut Vec<Cell>,
 ) -> Result<Vec<Formula>, Memory>
-    ensures code { IfOk result (λ ds. AreCodesFrom kept.old (operands_of operands.now) clock.now ds.items) }
-    ensures cells { OnOk result (KeepsCells kept.old kept.new (all_kept_cells (operands_of operands.now) (one_clock clock.now) 0)) }
-    ensures firsts { OnOk result (KeepsFirsts kept.old kept.new (all_kept_firsts (operands_of operands.now) (one_clock clock.now) 0)) }
+    ensures code { IfOk result (λ ds. AreCodesFrom cells.old.items firsts.now (operands_of operands.now) clock.now ds.items) }
+    ensures cells { let kept = all_kept_cells (operands_of operands.now) (one_clock clock.now) 0 in
+        OnOk result (KeepsCells cells.old.items cells.new.items kept) }
 {
     let mut codes = Vec::with_capacity(alloc, operands.len())?;
     for operand in operands {
-        let code = code_of(alloc, operand, clock, kept)?;
+        let code = code_of(alloc, operand, clock, firsts, cells)?;
         codes.push(code)?;
     }
     Ok(codes)
@@ -97,11 +105,12 @@ fn branch_codes_of(
     variable: u32,
     branches: &[Expr],
     clock: &[Test],
-    kept: &mut Kept,
+    firsts: &Firsts,
+    cells: &mut Vec<Cell>,
 ) -> Result<Vec<Formula>, Memory>
-    ensures code { IfOk result (λ ds. AreBranchesFrom kept.old (operands_of branches.now) variable clock.now ds.items) }
-    ensures cells { OnOk result (KeepsCells kept.old kept.new (all_kept_cells (operands_of branches.now) (branch_clock variable clock.now) 0)) }
-    ensures firsts { OnOk result (KeepsFirsts kept.old kept.new (all_kept_firsts (operands_of branches.now) (branch_clock variable clock.now) 0)) }
+    ensures code { IfOk result (λ ds. AreBranchesFrom cells.old.items firsts.now (operands_of branches.now) variable clock.now ds.items) }
+    ensures cells { let kept = all_kept_cells (operands_of branches.now) (branch_clock variable clock.now) 0 in
+        OnOk result (KeepsCells cells.old.items cells.new.items kept) }
 {
     let mut codes = Vec::new(alloc);
     for (constructor, branch) in branches.iter().enumerate() {
@@ -114,7 +123,7 @@ fn branch_codes_of(
             },
             clock,
         )?;
-        let code = code_of(alloc, branch, &clock, kept)?;
+        let code = code_of(alloc, branch, &clock, firsts, cells)?;
         codes.push(code)?;
     }
     Ok(codes)

@@ -6,23 +6,23 @@ ghost use Rattle.lus_streams.specs.Equations.{place_in};
 ghost use Rattle.lus_classes.specs.View.{taken};
 ghost use Rattle.lus_values.specs.Lists.{Each};
 ghost use Rattle.lus_translation.specs.Making.{GivesAny, calls_made};
-ghost use Rattle.lus_translation.specs.Forms.{answers_form, given_cells, given_firsts, turn_cells, turn_firsts};
-ghost use Rattle.lus_translation.specs.Building.{AddsCells, AddsFirsts, Adds, MakesCalls, given_from, turn_calls_from, turn_from};
+ghost use Rattle.lus_translation.specs.Forms.{answers_form, given_cells, turn_cells};
+ghost use Rattle.lus_translation.specs.Building.{AddsCells, Adds, MakesCalls, given_from, turn_calls_from, turn_from};
 
 use crate::code::code_of;
-use crate::kept::Kept;
+use crate::firsts::Firsts;
 use crate::numbers::number_of;
 use lus_clocks::inputs_at;
-use lus_instructions::{Step, Target};
+use lus_instructions::{Cell, Step, Target};
 use lus_program::{Equation, Expr, Form, Program, Test};
 use lus_values::Memory;
 use std::alloc::Global;
 
-/// The steps so far, with what they keep.
+/// The steps so far, with the cells that they keep.
 #[derive(Drop)]
 pub struct Built {
     pub steps: Vec<Step>,
-    pub kept: Kept,
+    pub cells: Vec<Cell>,
 }
 
 /// Where a variable stands first on a left side, if it does.
@@ -66,17 +66,18 @@ fn give_right(
     alloc: Global,
     right: &Expr,
     clock: &[Test],
+    firsts: &Firsts,
     variables: &[u32],
     built: &mut Built,
 ) -> Result<(), Memory>
-    ensures steps { OnOk result (Adds built.old built.new (given_from built.old (expression_of right.now) clock.now variables.now)) }
+    ensures steps { let given = given_from built.old firsts.now (expression_of right.now) clock.now variables.now in
+        OnOk result (Adds built.old built.new given) }
     ensures cells { OnOk result (AddsCells built.old built.new (given_cells (expression_of right.now) clock.now variables.now)) }
-    ensures firsts { OnOk result (AddsFirsts built.old built.new (given_firsts (expression_of right.now) clock.now variables.now)) }
     ensures given { OnOk result (Each GivesAny built.old.steps.items → Each GivesAny built.new.steps.items) }
     ensures made { OnOk result (MakesCalls built.new (calls_made built.old.steps.items)) }
 {
     for variable in variables {
-        let code = code_of(alloc, right, clock, &mut built.kept)?;
+        let code = code_of(alloc, right, clock, firsts, &mut built.cells)?;
         built.steps.push(Step::Give(*variable, code))?;
     }
     Ok(())
@@ -89,13 +90,14 @@ pub fn give_turn(
     program: &Program,
     equation: &Equation,
     clock: &[Test],
+    firsts: &Firsts,
     number: u32,
     variables: &[u32],
     built: &mut Built,
 ) -> Result<(), Memory>
-    ensures steps { OnOk result (Adds built.old built.new (turn_from program.now built.old number equation.now clock.now variables.now)) }
+    ensures steps { let given = turn_from program.now built.old firsts.now number equation.now clock.now variables.now in
+        OnOk result (Adds built.old built.new given) }
     ensures cells { OnOk result (AddsCells built.old built.new (turn_cells (expression_of equation.now.right) clock.now variables.now)) }
-    ensures firsts { OnOk result (AddsFirsts built.old built.new (turn_firsts (expression_of equation.now.right) clock.now variables.now)) }
     ensures given { OnOk result (Each GivesAny built.old.steps.items → Each GivesAny built.new.steps.items) }
     ensures made { OnOk result (MakesCalls built.new (turn_calls_from program.now built.old number equation.now variables.now)) }
 {
@@ -109,6 +111,6 @@ pub fn give_turn(
             built.steps.push(Step::Call(number, targets))?;
             Ok(())
         }
-        _ => give_right(alloc, &equation.right, clock, variables, built),
+        _ => give_right(alloc, &equation.right, clock, firsts, variables, built),
     }
 }

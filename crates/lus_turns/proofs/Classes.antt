@@ -1,7 +1,8 @@
 -- The class whose equations have turns in a causal order belongs to the node.
-use Rattle.std.proofs.Common.{◌≡◌, ◌∙◌, ℕ, suc, ◌+◌, ◌<◌, ◌≤◌, List, [], ◌∷◌, ◌++◌, length, Some, None, slice_get, refl, sym, ap, subst, arith, append-nil, ⊎_elim}
+use Rattle.std.proofs.Common.{◌≡◌, ◌∙◌, ℕ, zero, suc, ◌+◌, ◌<◌, ◌≤◌, List, [], ◌∷◌, ◌++◌, length, Option, Some, None, slice_get, refl, sym, ap, subst, arith, append-nil, ⊎_elim}
 use Rattle.std.proofs.lemmas.Bool.{cases_lt}
 use Rattle.lus_values.specs.Lists.{item, Each}
+use Rattle.lus_values.specs.declared.test.Test.{Test}
 use Rattle.lus_values.proofs.Lists.{each_found, below_at}
 use Rattle.lus_program.specs.declared.node.Equation.{Equation as StoredEquation}
 use Rattle.lus_program.specs.Programs.{Equation, Node, Program}
@@ -9,17 +10,18 @@ use Rattle.lus_program.specs.View.{expression_of, equations_from}
 use Rattle.lus_streams.specs.Clocks.{clock_of}
 use Rattle.lus_streams.specs.Equations.{Definition, given_by, definition_of, equation_clock}
 use Rattle.lus_streams.specs.OnClock.{LeftOnClock}
-use Rattle.lus_streams.proofs.Lists.{each_append}
+use Rattle.lus_streams.proofs.Lists.{each_append, each_left, each_right}
 use Rattle.lus_classes.specs.Classes.{Class, Step}
 use Rattle.lus_classes.specs.ClassesOf.{IsTarget, IsStep, IsCovered}
 use Rattle.lus_normal_form.specs.NormalForm.{IsSimpleRight}
 use Rattle.lus_normal_form.specs.Named.{DefinesFirst, DefinitionFits}
-use Rattle.lus_translation.specs.Forms.{Turn, calls_form, class_form, numbers_form, steps_at, cells_at, firsts_at, all_steps, all_cells, all_firsts, equation_steps, equation_cells, equation_firsts}
+use Rattle.lus_translation.specs.Forms.{Turn, calls_form, class_form, numbers_form, steps_at, cells_at, all_steps, all_cells, equation_steps, equation_cells, flags_of, kept_firsts, marked}
 use Rattle.lus_normal_form.specs.Ready.{IsReady}
-use Rattle.lus_translation.specs.Laws.{HasFrom, IsFittingRight}
+use Rattle.lus_translation.specs.Laws.{HasFlag, HasFrom, IsFittingRight}
 use Rattle.lus_translation.specs.Orders.{Follow, IsTurn, in_turn}
 use Rattle.lus_translation.proofs.FittingCalls.{ready_rights_fit}
 use Rattle.lus_translation.proofs.From.{from_left, from_right}
+use Rattle.lus_translation.proofs.NewestTests.{all_flagged}
 use Rattle.lus_translation.proofs.Numbered.{stored_calls, calls_stored}
 use Rattle.lus_translation.proofs.Shapes.{classes_have_shape}
 use Rattle.lus_translation.proofs.Followers.{followers_are_in_turn, followers_give_all}
@@ -76,9 +78,6 @@ record IsHeldTurn (p : Program) (f : Node) (c : Class) (qs : List StoredEquation
   found : IsFound p f c (item 0 (numbers_form 0 qs) t.equation) (expression_of stored.right) (clock_of f (item 0 stored.targets.items 0))
 
 module _ (p : Program) (f : Node) (ready : IsReady p f) (defined : IsDefined p f) (qs : List StoredEquation) (is : f.equations ≡ equations_from 0 qs) (c : Class) (same_calls : c.calls ≡ calls_form p f f.equations) where
-  abbrev numbers : List ℕ
-  numbers = numbers_form 0 qs
-
   found_call : (i : ℕ) (q : StoredEquation) → slice_get qs i ≡ Some q → IsFound p f c (item 0 (numbers_form 0 qs) i) (expression_of q.right) (clock_of f (item 0 q.targets.items 0))
   found_call i q here g j args e =
       let at = number_at 0 qs i (slice_within qs i q here) in
@@ -110,40 +109,46 @@ module _ (p : Program) (f : Node) (ready : IsReady p f) (defined : IsDefined p f
   follow_append (s ∷ ss) rs [] ys h k = absurd h
   follow_append (s ∷ ss) rs (x ∷ xs) ys h k = (h.0, h.1, follow_append ss rs xs ys h.2 k)
 
-  all_follow : (m n : ℕ) (ts : List Turn) → Each (IsTurn f) ts → Follow p f c (all_steps p f qs (numbers_form 0 qs) m n ts) (in_turn ts)
-  all_follow m n [] h = tt
-  all_follow m n (t ∷ ts) h =
+  all_follow : (m : ℕ) (fs : List (Option Test)) (ts : List Turn) → Each (IsTurn f) ts → Follow p f c (all_steps p f qs (numbers_form 0 qs) m fs ts) (in_turn ts)
+  all_follow m fs [] h = tt
+  all_follow m fs (t ∷ ts) h =
       let held = held_turn t h.0 in
       let number = item 0 (numbers_form 0 qs) t.equation in
       let q = held.stored in
       let cells = length (cells_at p f qs (numbers_form 0 qs) t) in
-      let firsts = length (firsts_at p f qs (numbers_form 0 qs) t) in
-      follow_append (steps_at p f qs (numbers_form 0 qs) m n t) (all_steps p f qs (numbers_form 0 qs) (m + cells) (n + firsts) ts) t.variables (in_turn ts)
-      (subst (λ z. Follow p f c (equation_steps p f m n number z t.variables) t.variables) (sym held.here)
-      (turn_follows p f c m n number (expression_of q.right) q.targets.items t.variables held.found held.held))
-      (all_follow (m + cells) (n + firsts) ts h.1)
+      follow_append (steps_at p f qs (numbers_form 0 qs) m fs t) (all_steps p f qs (numbers_form 0 qs) (m + cells) fs ts) t.variables (in_turn ts)
+      (subst (λ z. Follow p f c (equation_steps p f m fs number z t.variables) t.variables) (sym held.here)
+      (turn_follows p f c m fs number (expression_of q.right) q.targets.items t.variables held.found held.held))
+      (all_follow (m + cells) fs ts h.1)
 
   outputs_known : OutputsKnown p f c
   outputs_known g i args ts k x o is_given within =
       (subst (DefinitionFits p f x) is_given (below_at (λ y. DefinitionFits p f y (definition_of f y)) (length f.variables) ready.named.definitions x within)).1
 
-  all_are_steps : (m n : ℕ) (ts : List Turn) → Each (IsTurn f) ts → HasFrom c.memories m (all_cells p f qs (numbers_form 0 qs) ts) → HasFrom c.firsts n (all_firsts p f qs (numbers_form 0 qs) ts)
-      → Each (IsStep p f c) (all_steps p f qs (numbers_form 0 qs) m n ts)
-  all_are_steps m n [] h hm hn = tt
-  all_are_steps m n (t ∷ ts) h hm hn =
+  marks_at : (fs : List (Option Test)) (rs : List StoredEquation) (i : ℕ) (q : StoredEquation) → slice_get rs i ≡ Some q → Each (HasFlag c fs) (marked f rs)
+      → Each (HasFlag c fs) (kept_firsts (expression_of q.right) (clock_of f (item 0 q.targets.items 0)))
+  marks_at fs [] i q here h = cc
+  marks_at fs (r ∷ rs) zero q here h =
+      let same : r ≡ q = cc in
+      subst (λ (z : StoredEquation). Each (HasFlag c fs) (kept_firsts (expression_of z.right) (clock_of f (item 0 z.targets.items 0)))) same
+      (each_left (HasFlag c fs) (kept_firsts (expression_of r.right) (clock_of f (item 0 r.targets.items 0))) (marked f rs) h)
+  marks_at fs (r ∷ rs) (suc i) q here h =
+      marks_at fs rs i q here (each_right (HasFlag c fs) (kept_firsts (expression_of r.right) (clock_of f (item 0 r.targets.items 0))) (marked f rs) h)
+
+  all_are_steps : (m : ℕ) (fs : List (Option Test)) (ts : List Turn) → Each (IsTurn f) ts → HasFrom c.memories m (all_cells p f qs (numbers_form 0 qs) ts) → Each (HasFlag c fs) (marked f qs)
+      → Each (IsStep p f c) (all_steps p f qs (numbers_form 0 qs) m fs ts)
+  all_are_steps m fs [] h hm hn = tt
+  all_are_steps m fs (t ∷ ts) h hm hn =
       let held = held_turn t h.0 in
       let number = item 0 (numbers_form 0 qs) t.equation in
       let q = held.stored in
       let own_cells = cells_at p f qs (numbers_form 0 qs) t in
-      let own_firsts = firsts_at p f qs (numbers_form 0 qs) t in
       let later_cells = all_cells p f qs (numbers_form 0 qs) ts in
-      let later_firsts = all_firsts p f qs (numbers_form 0 qs) ts in
       let cells = subst (λ z. HasFrom c.memories m (equation_cells f z t.variables)) held.here (from_left c.memories m own_cells later_cells hm) in
-      let firsts = subst (λ z. HasFrom c.firsts n (equation_firsts f z t.variables)) held.here (from_left c.firsts n own_firsts later_firsts hn) in
-      each_append (IsStep p f c) (steps_at p f qs (numbers_form 0 qs) m n t) (all_steps p f qs (numbers_form 0 qs) (m + length own_cells) (n + length own_firsts) ts)
-      (subst (λ z. Each (IsStep p f c) (equation_steps p f m n number z t.variables)) (sym held.here)
-      (turn_is_steps p f c (defined_past p f defined) outputs_known m n number (expression_of q.right) q.targets.items t.variables held.found held.held cells firsts))
-      (all_are_steps (m + length own_cells) (n + length own_firsts) ts h.1 (from_right c.memories m own_cells later_cells hm) (from_right c.firsts n own_firsts later_firsts hn))
+      each_append (IsStep p f c) (steps_at p f qs (numbers_form 0 qs) m fs t) (all_steps p f qs (numbers_form 0 qs) (m + length own_cells) fs ts)
+      (subst (λ z. Each (IsStep p f c) (equation_steps p f m fs number z t.variables)) (sym held.here)
+      (turn_is_steps p f c (defined_past p f defined) outputs_known m fs number (expression_of q.right) q.targets.items t.variables held.found held.held cells (marks_at fs qs t.equation q held.here hn)))
+      (all_are_steps (m + length own_cells) fs ts h.1 (from_right c.memories m own_cells later_cells hm) hn)
 
 has_whole : {X : Type 0} (xs : List X) → HasFrom xs 0 xs
 has_whole xs = record { before = []; after = []; place = refl; whole = sym (append-nil xs) }
@@ -152,7 +157,7 @@ pub classes_belong : ClassesBelong
 classes_belong p f ready defined qs is ts turns =
     let c = class_form p f qs (numbers_form 0 qs) ts in
     let shape = classes_have_shape p f ready qs is ts in
-    let follow = all_follow p f ready defined qs is c refl 0 0 ts turns.each in
+    let follow = all_follow p f ready defined qs is c refl 0 (flags_of f qs) ts turns.each in
     let every = λ (x : ℕ) (own : f.inputs ≤ x) (within : x < length f.variables). followers_give_all p f c c.steps (in_turn ts) follow x (turns.every x own within) in
     record {
       inputs = shape.inputs;
@@ -160,7 +165,7 @@ classes_belong p f ready defined qs is ts turns =
       width = shape.width;
       clocks = shape.clocks;
       input_clocks = shape.input_clocks;
-      steps = all_are_steps p f ready defined qs is c refl 0 0 ts turns.each (has_whole c.memories) (has_whole c.firsts);
+      steps = all_are_steps p f ready defined qs is c refl 0 (flags_of f qs) ts turns.each (has_whole c.memories) (all_flagged p f ready qs is ts);
       turns = followers_are_in_turn p f c c.steps (in_turn ts) _ shape.clocks shape.width follow turns.order;
       every = every;
       covered = all_covered p f c defined every f.equations ready.named.equations;

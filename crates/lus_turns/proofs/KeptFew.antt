@@ -1,6 +1,6 @@
 -- A class that is made of turns keeps no more than its node wants: each variable has one turn at most, and an equation that is
 -- no call one variable.
-use Rattle.std.proofs.Common.{◌≡◌, ◌≢◌, ◌∙◌, ℕ, zero, suc, ◌+◌, ◌<◌, ◌≤◌, Bool, true, false, cond, ◌||◌, nat_eq, nat_lt, List, [], ◌∷◌, length, length-append, sum_by, Option, Some, None, slice_get, refl, sym, ap, subst, arith, ⊎_elim, eq-eqb}
+use Rattle.std.proofs.Common.{◌≡◌, ◌≢◌, ◌∙◌, ℕ, zero, suc, ◌+◌, ◌<◌, ◌≤◌, Bool, true, false, cond, ◌||◌, nat_eq, nat_lt, List, [], ◌∷◌, length, length-append, map, sum_by, Option, Some, None, slice_get, refl, sym, ap, subst, arith, ⊎_elim, eq-eqb}
 use Rattle.std.proofs.lemmas.Bool.{cases_eq, cases_lt, eqb-true}
 use Rattle.std.proofs.lemmas.List.{length-map}
 use Rattle.std.proofs.lemmas.List.Sums.{sum_by-append, sum_by-cons}
@@ -13,55 +13,40 @@ use Rattle.lus_streams.specs.Equations.{Definition, given_by, definition_in, def
 use Rattle.lus_normal_form.specs.NormalNodes.{memories, all_memories, firsts, all_firsts, count_rights}
 use Rattle.lus_normal_form.specs.NormalForm.{IsSimpleRight}
 use Rattle.lus_normal_form.specs.Ready.{IsReady}
-use Rattle.lus_translation.specs.Forms.{kept_cells, all_kept_cells, kept_firsts, all_kept_firsts, given_cells, given_firsts, turn_cells, turn_firsts, equation_cells, equation_firsts, Turn, cells_at, firsts_at, all_cells, all_firsts as firsts_in_all, numbers_form}
+use Rattle.lus_translation.specs.Forms.{kept_cells, all_kept_cells, kept_firsts, all_kept_firsts, flags_of, given_cells, marked, tests_in, turn_cells, equation_cells, Turn, cells_at, all_cells, numbers_form}
 use Rattle.lus_translation.specs.Orders.{InOrder, IsGivenBy, IsTurn, AreTurns, in_turn}
 use Rattle.lus_instructions.specs.declared.class.Class.{Class as StoredClass}
 use Rattle.lus_classes.specs.View.{class_of, clock_from, memory_of}
 use Rattle.lus_translation.specs.Forms.{class_form}
 use Rattle.lus_turns.specs.Turned.{HasOneLeft, HaveOneLeft, KeepsFew}
+use Rattle.lus_translation.specs.Newest.{newest}
+use Rattle.lus_translation.proofs.Flags.{all_few}
 use Rattle.lus_turns.proofs.StoredEquations.{stored_at}
 
 -- ---- what right sides keep
 
 mutual
-  cells_few : (n : ℕ) (e : Expression) (k : Clock) → length (kept_cells e k) ≤ memories (numbered n e)
-  cells_few n (literal v) k = omega arith
-  cells_few n (operate o es) k = all_cells_few n es (λ m. k) 0
-  cells_few n (arrow a b) k =
-      let first = cells_few n a k in
-      let later = cells_few (n + calls a) b k in
-      let both = length-append (kept_cells a k) (kept_cells b k) in
-      omega (arith, first, later, both)
-  cells_few n (merge x bs) k = all_cells_few n bs (branch_clock x k) 0
-  cells_few n e k = omega arith
+  kept_few : (n : ℕ) (e : Expression) (k : Clock) → (length (kept_cells e k) ≤ memories (numbered n e)) × (length (kept_firsts e k) ≤ firsts (numbered n e))
+  kept_few n (literal v) k = (omega arith, omega arith)
+  kept_few n (operate o es) k = all_kept_few n es (λ m. k) 0
+  kept_few n (arrow a b) k =
+      let first = kept_few n a k in
+      let later = kept_few (n + calls a) b k in
+      let cells = length-append (kept_cells a k) (kept_cells b k) in
+      let flags = length-append (kept_firsts a k) (kept_firsts b k) in
+      (omega (arith, first.0, later.0, cells), omega (arith, first.1, later.1, flags))
+  kept_few n (merge x bs) k = all_kept_few n bs (branch_clock x k) 0
+  kept_few n e k = (omega arith, omega arith)
 
-  all_cells_few : (n : ℕ) (es : Operands) (ks : ℕ → Clock) (m : ℕ) → length (all_kept_cells es ks m) ≤ all_memories (all_numbered n es)
-  all_cells_few n none ks m = omega arith
-  all_cells_few n (more e es) ks m =
-      let first = cells_few n e (ks m) in
-      let later = all_cells_few (n + calls e) es ks (suc m) in
-      let both = length-append (kept_cells e (ks m)) (all_kept_cells es ks (suc m)) in
-      omega (arith, first, later, both)
-
-mutual
-  firsts_few : (n : ℕ) (e : Expression) (k : Clock) → length (kept_firsts e k) ≤ firsts (numbered n e)
-  firsts_few n (literal v) k = omega arith
-  firsts_few n (operate o es) k = all_firsts_few n es (λ m. k) 0
-  firsts_few n (arrow a b) k =
-      let first = firsts_few n a k in
-      let later = firsts_few (n + calls a) b k in
-      let both = length-append (kept_firsts a k) (kept_firsts b k) in
-      omega (arith, first, later, both)
-  firsts_few n (merge x bs) k = all_firsts_few n bs (branch_clock x k) 0
-  firsts_few n e k = omega arith
-
-  all_firsts_few : (n : ℕ) (es : Operands) (ks : ℕ → Clock) (m : ℕ) → length (all_kept_firsts es ks m) ≤ all_firsts (all_numbered n es)
-  all_firsts_few n none ks m = omega arith
-  all_firsts_few n (more e es) ks m =
-      let first = firsts_few n e (ks m) in
-      let later = all_firsts_few (n + calls e) es ks (suc m) in
-      let both = length-append (kept_firsts e (ks m)) (all_kept_firsts es ks (suc m)) in
-      omega (arith, first, later, both)
+  all_kept_few : (n : ℕ) (es : Operands) (ks : ℕ → Clock) (m : ℕ)
+      → (length (all_kept_cells es ks m) ≤ all_memories (all_numbered n es)) × (length (all_kept_firsts es ks m) ≤ all_firsts (all_numbered n es))
+  all_kept_few n none ks m = (omega arith, omega arith)
+  all_kept_few n (more e es) ks m =
+      let first = kept_few n e (ks m) in
+      let later = all_kept_few (n + calls e) es ks (suc m) in
+      let cells = length-append (kept_cells e (ks m)) (all_kept_cells es ks (suc m)) in
+      let flags = length-append (kept_firsts e (ks m)) (all_kept_firsts es ks (suc m)) in
+      (omega (arith, first.0, later.0, cells), omega (arith, first.1, later.1, flags))
 
 -- ---- sums over the first n numbers
 
@@ -245,22 +230,9 @@ given_cells_few e k w V (x ∷ xs) few h =
     let sum = sum_by-cons V x xs in
     omega (arith, few, here, rest, both, sum)
 
-given_firsts_few : (e : Expression) (k : Clock) (w : ℕ) (V : ℕ → ℕ) (xs : List ℕ) → length (kept_firsts e k) ≤ w → Each (λ x. V x ≡ w) xs → length (given_firsts e k xs) ≤ sum_by V xs
-given_firsts_few e k w V [] few h = omega arith
-given_firsts_few e k w V (x ∷ xs) few h =
-    let here = h.0 in
-    let rest = given_firsts_few e k w V xs few h.1 in
-    let both = length-append (kept_firsts e k) (given_firsts e k xs) in
-    let sum = sum_by-cons V x xs in
-    omega (arith, few, here, rest, both, sum)
-
 turn_cells_few : (n : ℕ) (e : Expression) (k : Clock) (V : ℕ → ℕ) (xs : List ℕ) → Each (λ x. V x ≡ own memories (numbered n e)) xs → length (turn_cells e k xs) ≤ sum_by V xs
 turn_cells_few n (call g c args) k V xs h = omega arith
-turn_cells_few n e k V xs h = given_cells_few e k (memories (numbered n e)) V xs (cells_few n e k) h
-
-turn_firsts_few : (n : ℕ) (e : Expression) (k : Clock) (V : ℕ → ℕ) (xs : List ℕ) → Each (λ x. V x ≡ own firsts (numbered n e)) xs → length (turn_firsts e k xs) ≤ sum_by V xs
-turn_firsts_few n (call g c args) k V xs h = omega arith
-turn_firsts_few n e k V xs h = given_firsts_few e k (firsts (numbered n e)) V xs (firsts_few n e k) h
+turn_cells_few n e k V xs h = given_cells_few e k (memories (numbered n e)) V xs (kept_few n e k).0 h
 
 module _ (p : Program) (f : Node) (ready : IsReady p f) (qs : List StoredEquation) (is : f.equations ≡ equations_from 0 qs) where
   cells_in_turns : (ts : List Turn) → Each (IsTurn f) ts → length (all_cells p f qs (numbers_form 0 qs) ts) ≤ sum_by (variable_keeps memories f) (in_turn ts)
@@ -279,22 +251,6 @@ module _ (p : Program) (f : Node) (ready : IsReady p f) (qs : List StoredEquatio
       let sum = sum_by-append V t.variables (in_turn ts) in
       omega (arith, here, rest, both, sum)
 
-  firsts_in_turns : (ts : List Turn) → Each (IsTurn f) ts → length (firsts_in_all p f qs (numbers_form 0 qs) ts) ≤ sum_by (variable_keeps firsts f) (in_turn ts)
-  firsts_in_turns [] h = omega arith
-  firsts_in_turns (t ∷ ts) h =
-      let V = variable_keeps firsts f in
-      let turn = h.0 in
-      let simple = subst (Each (λ r. IsSimpleRight r.right)) is ready.simple in
-      let s = stored_at 0 qs t.equation turn.equation simple (subst (λ es. slice_get es t.equation ≡ Some turn.equation) is turn.here) in
-      let number = item 0 (numbers_form 0 qs) t.equation in
-      let keeps = subst (λ (q : Equation). Each (λ x. V x ≡ own firsts q.right) t.variables) (sym s.same) (turn_keeps firsts f turn.equation t.variables turn.given) in
-      let own_few = turn_firsts_few number (expression_of s.stored.right) (clock_of f (item 0 s.stored.targets.items 0)) V t.variables keeps in
-      let here = subst (λ z. length (equation_firsts f z t.variables) ≤ sum_by V t.variables) (sym s.here) own_few in
-      let rest = firsts_in_turns ts h.1 in
-      let both = length-append (firsts_at p f qs (numbers_form 0 qs) t) (firsts_in_all p f qs (numbers_form 0 qs) ts) in
-      let sum = sum_by-append V t.variables (in_turn ts) in
-      omega (arith, here, rest, both, sum)
-
   -- no more cells than the node's memories
   few_cells : (ts : List Turn) → AreTurns p f ts → Each (λ q. HasOneLeft q.right (length q.targets)) f.equations
       → length (all_cells p f qs (numbers_form 0 qs) ts) ≤ count_rights memories f.equations
@@ -304,20 +260,26 @@ module _ (p : Program) (f : Node) (ready : IsReady p f) (qs : List StoredEquatio
       omega (arith, here, all)
 
   -- no more first-flags than its marks of a first instant
-  few_firsts : (ts : List Turn) → AreTurns p f ts → Each (λ q. HasOneLeft q.right (length q.targets)) f.equations
-      → length (firsts_in_all p f qs (numbers_form 0 qs) ts) ≤ count_rights firsts f.equations
-  few_firsts ts turns one =
-      let here = firsts_in_turns ts turns.each in
-      let all = turns_few firsts p f ts turns one in
-      omega (arith, here, all)
+  marked_few : (n : ℕ) (rs : List StoredEquation) → length (marked f rs) ≤ count_rights firsts (equations_from n rs)
+  marked_few n [] = omega arith
+  marked_few n (q ∷ rs) =
+      let e = expression_of q.right in
+      let k = clock_of f (item 0 q.targets.items 0) in
+      let here = (kept_few n e k).1 in
+      let rest = marked_few (n + calls e) rs in
+      let both = length-append (kept_firsts e k) (marked f rs) in
+      omega (arith, here, rest, both)
 
   -- the class of the turns
   pub keeps_few : (ts : List Turn) → AreTurns p f ts → (c : StoredClass) → class_of c ≡ class_form p f qs (numbers_form 0 qs) ts → HaveOneLeft f → KeepsFew f c
   keeps_few ts turns c made one =
       let cells = ap (λ d. length d.memories) made in
-      let firsts_made = ap (λ d. length d.firsts) made in
+      let firsts_made = ap (λ d. length d.firsts) made ∙ length-map (flags_of f qs) (clock_from (tests_in f)) in
       let stored_cells = length-map c.cells.items (memory_of c.tests.items) in
       let stored_firsts = length-map c.firsts.items (clock_from c.tests.items) in
       let a = few_cells ts turns one in
-      let b = few_firsts ts turns one in
-      record { cells = omega (arith, cells, stored_cells, a); firsts = omega (arith, firsts_made, stored_firsts, b) }
+      let flags = all_few [] (map newest (marked f qs)) in
+      let marks = length-map (marked f qs) newest in
+      let wants = ap (count_rights firsts) is in
+      let b = marked_few 0 qs in
+      record { cells = omega (arith, cells, stored_cells, a); firsts = omega (arith, firsts_made, stored_firsts, flags, marks, wants, b) }

@@ -15,15 +15,20 @@ use Rattle.lus_classes.specs.Variables.{ArgumentWithin, AtomWithin, CallWithin, 
 use Rattle.lus_classes.specs.View.{argument_of, atom_of, call_of, class_of, clock_from, memory_of}
 use Rattle.lus_normal_form.specs.Named.{GivesOutput, Known, Uses}
 use Rattle.lus_normal_form.specs.Ready.{IsReady}
-use Rattle.lus_normal_form.proofs.OneTest.{untested}
+use Rattle.lus_normal_form.specs.Laws.{IsChain}
+use Rattle.lus_normal_form.proofs.OneTest.{clock_is_chain, untested}
 use Rattle.lus_instructions.specs.declared.class.Argument.{Argument as StoredArgument}
 use Rattle.lus_instructions.specs.declared.class.Call.{Call as StoredCall}
 use Rattle.lus_instructions.specs.declared.class.Class.{Class as StoredClass}
 use Rattle.lus_instructions.specs.declared.formula.Atom.{Atom as StoredAtom}
 use Rattle.lus_instructions.specs.declared.formula.Atom.TheVariants as atoms
-use Rattle.lus_translation.specs.Forms.{Turn, all_cells, all_clocks, all_firsts, all_kept_cells, all_kept_firsts, arguments_form, atom_form, call_first, call_form, calls_form, cells_at, class_form, equation_cells, equation_firsts, firsts_at, given_cells, given_firsts, kept_cells, kept_firsts, numbers_form, one_clock, turn_cells, turn_firsts}
+use Rattle.lus_translation.specs.Forms.{Turn, all_cells, all_clocks, all_kept_cells, all_kept_firsts, arguments_form, atom_form, call_first, call_form, calls_form, cells_at, class_form, equation_cells, flags_of, given_cells, kept_cells, kept_firsts, marked, numbers_form, one_clock, tests_in, turn_cells}
 use Rattle.lus_translation.specs.Laws.{IsFittingCall, IsFittingRight}
+use Rattle.lus_translation.specs.Newest.{newest}
+use Rattle.lus_translation.proofs.Chains.{marked_chained}
+use Rattle.lus_translation.proofs.Flags.{each_all}
 use Rattle.lus_translation.proofs.FittingCalls.{ready_rights_fit}
+use Rattle.lus_translation.proofs.NewestTests.{found_again}
 
 module _ (f : Node) where
   -- the variables of a clock
@@ -87,31 +92,37 @@ module _ (p : Program) (f : Node) where
         let later = all_kept_known (n + calls e) es ks (suc m) (each_right Used (parts p (numbered n e) k) rest o) in
         (each_append (MemoryKnown f) (kept_cells e k) (all_kept_cells es ks (suc m)) first.0 later.0, each_append (ClockKnown f) (kept_firsts e k) (all_kept_firsts es ks (suc m)) first.1 later.1)
 
-  given_known : (e : Expression) (k : Clock) (xs : List ℕ) → Each (MemoryKnown f) (kept_cells e k) × Each (ClockKnown f) (kept_firsts e k) → Each (MemoryKnown f) (given_cells e k xs) × Each (ClockKnown f) (given_firsts e k xs)
-  given_known e k [] h = (tt, tt)
-  given_known e k (x ∷ xs) h =
-      let later = given_known e k xs h in
-      (each_append (MemoryKnown f) (kept_cells e k) (given_cells e k xs) h.0 later.0, each_append (ClockKnown f) (kept_firsts e k) (given_firsts e k xs) h.1 later.1)
+  given_known : (e : Expression) (k : Clock) (xs : List ℕ) → Each (MemoryKnown f) (kept_cells e k) → Each (MemoryKnown f) (given_cells e k xs)
+  given_known e k [] h = tt
+  given_known e k (x ∷ xs) h = each_append (MemoryKnown f) (kept_cells e k) (given_cells e k xs) h (given_known e k xs h)
 
-  turn_known : (n : ℕ) (e : Expression) (k : Clock) (xs : List ℕ) → IsFittingRight p f (numbered n e) k → Each (MemoryKnown f) (turn_cells e k xs) × Each (ClockKnown f) (turn_firsts e k xs)
-  turn_known n (call g i args) k xs fit = (tt, tt)
-  turn_known n (literal v) k xs fit = given_known (literal v) k xs (kept_known n (literal v) k fit.1.known)
-  turn_known n e k xs fit = given_known e k xs (kept_known n e k fit.1.known)
+  -- what an equation keeps at a turn, and the clocks of what it marks
+  turn_known : (n : ℕ) (e : Expression) (k : Clock) → IsFittingRight p f (numbered n e) k
+      → ((xs : List ℕ) → Each (MemoryKnown f) (turn_cells e k xs)) × Each (ClockKnown f) (kept_firsts e k)
+  turn_known n (call g i args) k fit = (λ xs. tt, tt)
+  turn_known n (literal v) k fit = (λ xs. given_known (literal v) k xs tt, tt)
+  turn_known n e k fit = let kept = kept_known n e k fit.1.known in (λ xs. given_known e k xs kept.0, kept.1)
 
   equation_known : (n : ℕ) (qs : List StoredEquation) (i : ℕ) (xs : List ℕ) → Each (λ q. IsFittingRight p f q.right (equation_clock f q)) (equations_from n qs)
-      → Each (MemoryKnown f) (equation_cells f (slice_get qs i) xs) × Each (ClockKnown f) (equation_firsts f (slice_get qs i) xs)
-  equation_known n [] i xs fit = (tt, tt)
-  equation_known n (q ∷ qs) zero xs fit = turn_known n (expression_of q.right) (clock_of f (item 0 q.targets.items 0)) xs fit.0
+      → Each (MemoryKnown f) (equation_cells f (slice_get qs i) xs)
+  equation_known n [] i xs fit = tt
+  equation_known n (q ∷ qs) zero xs fit = (turn_known n (expression_of q.right) (clock_of f (item 0 q.targets.items 0)) fit.0).0 xs
   equation_known n (q ∷ qs) (suc i) xs fit = equation_known (n + calls (expression_of q.right)) qs i xs fit.1
 
   -- what all turns keep
   all_known : (qs : List StoredEquation) (numbers : List ℕ) (ts : List Turn) → Each (λ q. IsFittingRight p f q.right (equation_clock f q)) (equations_from 0 qs)
-      → Each (MemoryKnown f) (all_cells p f qs numbers ts) × Each (ClockKnown f) (all_firsts p f qs numbers ts)
-  all_known qs numbers [] fit = (tt, tt)
+      → Each (MemoryKnown f) (all_cells p f qs numbers ts)
+  all_known qs numbers [] fit = tt
   all_known qs numbers (t ∷ ts) fit =
-      let first = equation_known 0 qs t.equation t.variables fit in
-      let later = all_known qs numbers ts fit in
-      (each_append (MemoryKnown f) (cells_at p f qs numbers t) (all_cells p f qs numbers ts) first.0 later.0, each_append (ClockKnown f) (firsts_at p f qs numbers t) (all_firsts p f qs numbers ts) first.1 later.1)
+      each_append (MemoryKnown f) (cells_at p f qs numbers t) (all_cells p f qs numbers ts) (equation_known 0 qs t.equation t.variables fit) (all_known qs numbers ts fit)
+
+  -- and what all equations mark
+  marked_known : (n : ℕ) (qs : List StoredEquation) → Each (λ q. IsFittingRight p f q.right (equation_clock f q)) (equations_from n qs) → Each (ClockKnown f) (marked f qs)
+  marked_known n [] fit = tt
+  marked_known n (q ∷ qs) fit =
+      let e = expression_of q.right in
+      let k = clock_of f (item 0 q.targets.items 0) in
+      each_append (ClockKnown f) (kept_firsts e k) (marked f qs) (turn_known n e k fit.0).1 (marked_known (n + calls e) qs fit.1)
 
   arguments_known : (es : Operands) (g : Node) (args : Operands) (base : Clock) (m : ℕ) → Each Used (all_parts p es (formal_clock g args base) m) → Each (ArgumentKnown f) (arguments_form es g args base m)
   arguments_known none g args base m o = tt
@@ -151,6 +162,21 @@ each_of : {X Y : Type 0} (g : X → Y) (P : Y → Type 0) (Q : X → Type 0) →
 each_of g P Q h [] all = tt
 each_of g P Q h (x ∷ xs) all = (h x all.0, each_of g P Q h xs all.1)
 
+all_of : {X Y : Type 0} (g : X → Y) (P : Y → Type 0) (xs : List X) → Each (λ x. P (g x)) xs → Each P (map g xs)
+all_of g P [] all = tt
+all_of g P (x ∷ xs) all = (all.0, all_of g P xs all.1)
+
+-- the clocks of first-flags are among those that equations mark
+newest_known : (f : Node) (ks : List Clock) → Each (IsChain f) ks → Each (ClockKnown f) ks → Each (λ t. ClockKnown f (clock_from (tests_in f) t)) (map newest ks)
+newest_known f [] chained known = tt
+newest_known f (k ∷ ks) chained known = (subst (ClockKnown f) (sym (found_again f k chained.0)) known.0, newest_known f ks chained.1 known.1)
+
+flags_known : (p : Program) (f : Node) (qs : List StoredEquation) → Each (IsChain f) (marked f qs) → Each (ClockKnown f) (marked f qs)
+    → Each (ClockKnown f) (map (clock_from (tests_in f)) (flags_of f qs))
+flags_known p f qs chained known =
+    all_of (clock_from (tests_in f)) (ClockKnown f) (flags_of f qs)
+    (each_all (λ t. ClockKnown f (clock_from (tests_in f) t)) [] (map newest (marked f qs)) tt (newest_known f (marked f qs) chained known))
+
 -- a stored class with as many variables as the node
 module _ (f : Node) (c : StoredClass) (wide : length c.tests.items ≡ length f.variables) where
   abbrev tests : List (Option Test)
@@ -176,11 +202,13 @@ module _ (f : Node) (c : StoredClass) (wide : length c.tests.items ≡ length f.
   names_variables p qs ts ready is same =
       let own = own_known p f ready in
       let fit = ready_rights_fit p f ready in
-      let kept = all_known p f qs (numbers_form 0 qs) ts (subst (Each (λ q. IsFittingRight p f q.right (equation_clock f q))) is fit) in
+      let stored = subst (Each (λ q. IsFittingRight p f q.right (equation_clock f q))) is fit in
+      let kept = all_known p f qs (numbers_form 0 qs) ts stored in
+      let flags = flags_known p f qs (marked_chained p f (clock_is_chain f ready.on_clocks.declared) 0 qs stored) (marked_known p f 0 qs stored) in
       let w = length tests in
       record {
         tests = each_of (clock_from tests) (ClockKnown f) (TestWithin w) test_within tests (subst (λ d. Each (ClockKnown f) d.clocks) (sym same) (clocks_known p f own 0 (length f.variables)));
-        cells = each_of (memory_of tests) (MemoryKnown f) (CellWithin w) (λ m h. (test_within m.test h.0, atom_within m.operand h.1)) c.cells.items (subst (λ d. Each (MemoryKnown f) d.memories) (sym same) kept.0);
-        firsts = each_of (clock_from tests) (ClockKnown f) (TestWithin w) test_within c.firsts.items (subst (λ d. Each (ClockKnown f) d.firsts) (sym same) kept.1);
+        cells = each_of (memory_of tests) (MemoryKnown f) (CellWithin w) (λ m h. (test_within m.test h.0, atom_within m.operand h.1)) c.cells.items (subst (λ d. Each (MemoryKnown f) d.memories) (sym same) kept);
+        firsts = each_of (clock_from tests) (ClockKnown f) (TestWithin w) test_within c.firsts.items (subst (λ d. Each (ClockKnown f) d.firsts) (sym same) flags);
         calls = each_of (call_of tests) (CallKnown f) (CallWithin w) call_within c.calls.items (subst (λ d. Each (CallKnown f) d.calls) (sym same) (calls_known p f own f.equations fit));
       }

@@ -1,7 +1,8 @@
 -- The steps of one turn follow its variables, and give what the definitions of these say.
-use Rattle.std.proofs.Common.{◌≡◌, ◌∙◌, inl, ℕ, zero, suc, ◌+◌, ◌<◌, ◌≤◌, Bool, true, false, nat_eq, List, [], ◌∷◌, length, Some, if◌then◌else◌, IsTrue, slice_get, refl, sym, ap, subst, arith}
+use Rattle.std.proofs.Common.{◌≡◌, ◌∙◌, inl, ℕ, zero, suc, ◌+◌, ◌<◌, ◌≤◌, Bool, true, false, nat_eq, List, [], ◌∷◌, length, Option, Some, if◌then◌else◌, IsTrue, slice_get, refl, sym, ap, subst, arith}
 use Rattle.std.proofs.lemmas.Bool.{eqb-true}
 use Rattle.lus_values.specs.Lists.{item, Each}
+use Rattle.lus_values.specs.declared.test.Test.{Test}
 use Rattle.lus_values.proofs.Lists.{below_at}
 use Rattle.lus_program.specs.Programs.{Expression, literal, call, Operands, Equation, Node, Program, node_at, numbered, all_numbered}
 use Rattle.lus_streams.specs.Clocks.{Clock, clock_of}
@@ -12,8 +13,8 @@ use Rattle.lus_streams.proofs.Lists.{each_implies}
 use Rattle.lus_classes.specs.Classes.{Class, Code, answer, call_reads}
 use Rattle.lus_classes.specs.ClassesOf.{IsAnswer, IsSource, IsStep}
 use Rattle.lus_normal_form.specs.NormalForm.{IsSimple}
-use Rattle.lus_translation.specs.Forms.{answer_first, answers_form, call_form, given_cells, given_firsts, given_steps, turn_steps, turn_cells, turn_firsts}
-use Rattle.lus_translation.specs.Laws.{HasFrom, IsFitting, IsFittingRight}
+use Rattle.lus_translation.specs.Forms.{answer_first, answers_form, call_form, given_cells, given_steps, kept_firsts, turn_steps, turn_cells}
+use Rattle.lus_translation.specs.Laws.{HasFlag, HasFrom, IsFitting, IsFittingRight}
 use Rattle.lus_translation.specs.Orders.{Follow, IsGivenBy, right_reads}
 use Rattle.lus_translation.proofs.Followers.{IsGivenOf, given_follow, given_are_steps, self_in}
 use Rattle.lus_translation.proofs.Numbered.{call_numbered}
@@ -91,20 +92,20 @@ module _ (p : Program) (f : Node) (c : Class) where
   abbrev equation : ℕ → Expression → List ℕ → Equation
   equation number e ts = record { targets = ts; right = numbered number e }
 
-  simple_follow : (m n number : ℕ) (e : Expression) (ts xs : List ℕ) → IsSimple (numbered number e) → IsHeld p f (equation number e ts) xs → Follow p f c (given_steps m n e (clock_of f (item 0 ts 0)) xs) xs
-  simple_follow m n number e ts xs s h =
+  simple_follow : (m : ℕ) (fs : List (Option Test)) (number : ℕ) (e : Expression) (ts xs : List ℕ) → IsSimple (numbered number e) → IsHeld p f (equation number e ts) xs → Follow p f c (given_steps m fs e (clock_of f (item 0 ts 0)) xs) xs
+  simple_follow m fs number e ts xs s h =
       let k = clock_of f (item 0 ts 0) in
-      subst (λ z. Follow p f c (given_steps m n z k xs) xs) (simple_numbered number e s) (given_follow p f c m n (numbered number e) k xs s (simple_given (equation number e ts) xs s h))
+      subst (λ z. Follow p f c (given_steps m fs z k xs) xs) (simple_numbered number e s) (given_follow p f c m fs (numbered number e) k xs s (simple_given (equation number e ts) xs s h))
 
-  simple_steps : (m n number : ℕ) (e : Expression) (ts xs : List ℕ) → IsSimple (numbered number e) → IsFitting p f (numbered number e) (clock_of f (item 0 ts 0)) → IsHeld p f (equation number e ts) xs
-      → HasFrom c.memories m (given_cells e (clock_of f (item 0 ts 0)) xs) → HasFrom c.firsts n (given_firsts e (clock_of f (item 0 ts 0)) xs)
-      → Each (IsStep p f c) (given_steps m n e (clock_of f (item 0 ts 0)) xs)
-  simple_steps m n number e ts xs s fit h cells firsts =
+  simple_steps : (m : ℕ) (fs : List (Option Test)) (number : ℕ) (e : Expression) (ts xs : List ℕ) → IsSimple (numbered number e) → IsFitting p f (numbered number e) (clock_of f (item 0 ts 0)) → IsHeld p f (equation number e ts) xs
+      → HasFrom c.memories m (given_cells e (clock_of f (item 0 ts 0)) xs) → Each (HasFlag c fs) (kept_firsts e (clock_of f (item 0 ts 0)))
+      → Each (IsStep p f c) (given_steps m fs e (clock_of f (item 0 ts 0)) xs)
+  simple_steps m fs number e ts xs s fit h cells firsts =
       let k = clock_of f (item 0 ts 0) in
       let same = simple_numbered number e s in
-      subst (λ z. Each (IsStep p f c) (given_steps m n z k xs)) same
-      (given_are_steps p f c m n (numbered number e) k xs s fit (simple_given (equation number e ts) xs s h)
-      (subst (λ z. HasFrom c.memories m (given_cells z k xs)) (sym same) cells) (subst (λ z. HasFrom c.firsts n (given_firsts z k xs)) (sym same) firsts))
+      subst (λ z. Each (IsStep p f c) (given_steps m fs z k xs)) same
+      (given_are_steps p f c m fs (numbered number e) k xs s fit (simple_given (equation number e ts) xs s h)
+      (subst (λ z. HasFrom c.memories m (given_cells z k xs)) (sym same) cells) (subst (λ z. Each (HasFlag c fs) (kept_firsts z k)) (sym same) firsts))
 
   -- steps that answer outputs of a call follow their variables
   answers_follow : (number inputs g : ℕ) (args : Operands) (ts : List ℕ) (xs : List ℕ) → slice_get c.calls number ≡ Some (call_form p g args (clock_of f (item 0 ts 0)))
@@ -155,14 +156,14 @@ module _ (p : Program) (f : Node) (c : Class) where
   abbrev pub IsFound : ℕ → Expression → Clock → Type 0
   IsFound number e k = (g j : ℕ) (args : Operands) → e ≡ call g j args → slice_get c.calls number ≡ Some (call_form p g args k)
 
-  pub turn_follows : (m n number : ℕ) (e : Expression) (ts xs : List ℕ) → IsFound number e (clock_of f (item 0 ts 0)) → IsHeld p f (equation number e ts) xs
-      → Follow p f c (turn_steps p m n number e ts (clock_of f (item 0 ts 0)) xs) xs
-  turn_follows m n number (call g j args) ts xs found h =
+  pub turn_follows : (m : ℕ) (fs : List (Option Test)) (number : ℕ) (e : Expression) (ts xs : List ℕ) → IsFound number e (clock_of f (item 0 ts 0)) → IsHeld p f (equation number e ts) xs
+      → Follow p f c (turn_steps p m fs number e ts (clock_of f (item 0 ts 0)) xs) xs
+  turn_follows m fs number (call g j args) ts xs found h =
       let numbered_args = all_numbered (suc number) args in
       let k = clock_of f (item 0 ts 0) in
       answers_follow number (node_at p g).inputs g numbered_args ts xs (found g j args refl ∙ ap Some (sym (call_numbered p g (suc number) args k))) h.given
-  turn_follows m n number (literal v) ts xs found h = simple_follow m n number (literal v) ts xs h.fit.0 h
-  turn_follows m n number e ts xs found h = simple_follow m n number e ts xs h.fit.0 h
+  turn_follows m fs number (literal v) ts xs found h = simple_follow m fs number (literal v) ts xs h.fit.0 h
+  turn_follows m fs number e ts xs found h = simple_follow m fs number e ts xs h.fit.0 h
 
   -- an output that defines a variable is a variable of the called node
   abbrev pub OutputsKnown : Type 0
@@ -171,12 +172,12 @@ module _ (p : Program) (f : Node) (c : Class) where
       → (node_at p g).inputs + o < length (node_at p g).variables
 
   module _ (no_input : (x : ℕ) (d : Definition) → definition_of f x ≡ Some d → f.inputs ≤ x) (known : OutputsKnown) where
-    pub turn_is_steps : (m n number : ℕ) (e : Expression) (ts xs : List ℕ) → IsFound number e (clock_of f (item 0 ts 0)) → IsHeld p f (equation number e ts) xs
-        → HasFrom c.memories m (turn_cells e (clock_of f (item 0 ts 0)) xs) → HasFrom c.firsts n (turn_firsts e (clock_of f (item 0 ts 0)) xs)
-        → Each (IsStep p f c) (turn_steps p m n number e ts (clock_of f (item 0 ts 0)) xs)
-    turn_is_steps m n number (call g j args) ts xs found h cells firsts =
+    pub turn_is_steps : (m : ℕ) (fs : List (Option Test)) (number : ℕ) (e : Expression) (ts xs : List ℕ) → IsFound number e (clock_of f (item 0 ts 0)) → IsHeld p f (equation number e ts) xs
+        → HasFrom c.memories m (turn_cells e (clock_of f (item 0 ts 0)) xs) → Each (HasFlag c fs) (kept_firsts e (clock_of f (item 0 ts 0)))
+        → Each (IsStep p f c) (turn_steps p m fs number e ts (clock_of f (item 0 ts 0)) xs)
+    turn_is_steps m fs number (call g j args) ts xs found h cells firsts =
         let numbered_args = all_numbered (suc number) args in
         let k = clock_of f (item 0 ts 0) in
         answers_are_steps g number numbered_args ts no_input (λ x o. known g number numbered_args ts k x o) xs xs h (found g j args refl ∙ ap Some (sym (call_numbered p g (suc number) args k))) h.given
-    turn_is_steps m n number (literal v) ts xs found h cells firsts = simple_steps m n number (literal v) ts xs h.fit.0 h.fit.1 h cells firsts
-    turn_is_steps m n number e ts xs found h cells firsts = simple_steps m n number e ts xs h.fit.0 h.fit.1 h cells firsts
+    turn_is_steps m fs number (literal v) ts xs found h cells firsts = simple_steps m fs number (literal v) ts xs h.fit.0 h.fit.1 h cells firsts
+    turn_is_steps m fs number e ts xs found h cells firsts = simple_steps m fs number e ts xs h.fit.0 h.fit.1 h cells firsts

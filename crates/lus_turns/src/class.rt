@@ -15,8 +15,7 @@ use lus_translation::class_with;
 use lus_values::Memory;
 use std::alloc::Global;
 
-/// The class of a node in normal form whose variables have this causal order, without room for it and its calls yet, and the parts
-/// that make its steps.
+/// The class of a node in normal form whose variables have this causal order, and the parts that make its steps.
 pub fn class_of(
     alloc: Global,
     program: &Program,

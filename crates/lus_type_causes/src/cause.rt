@@ -23,10 +23,10 @@ fn said_of<'t>(given: Given<'t>, expr: &'t Expr, cause: Cause) -> Option<Said<'t
         _ if !given.is_at(start_of(expr)) => None,
         (Cause::Clash(whole, wanted, found), _) => clash(given, expr, whole, wanted, found),
         (Cause::Times(of, times, first), _) => counted(given, expr, of, times, first),
-        (Cause::Count(_, wanted, found, lacking), Expr::Call(name, _)) => {
-            arguments(given, name, wanted, found, lacking)
+        (Cause::Count(_, wanted, found, lacking), Expr::Call(name, parts)) => {
+            arguments(given, name, parts, wanted, found, lacking)
         }
-        (Cause::Results(count), Expr::Call(name, _)) => results(given, name, count),
+        (Cause::Results(count), Expr::Call(name, _)) => results(given, expr, name, count),
         _ => None,
     }
 }

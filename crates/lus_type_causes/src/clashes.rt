@@ -2,15 +2,17 @@
 
 use crate::given::Given;
 use crate::kinds::{
-    constructors, field_at, fields, group_at, has_name, is_written_alike, part_named, variable_at,
+    constructors, declaration, field_at, fields, group_at, has_name, is_written_alike, part_named,
+    variable_at,
 };
+use crate::listing::Listed;
 use crate::operators::{advice, ends_at, main_span, operand, pair, sign, sign_between};
 use crate::repair::Repair;
 use crate::said::{Said, Words};
 use lus_faults::{extent_of, start_of, variable_named};
 use lus_program::Kind;
 use lus_source::{Member, Whole};
-use lus_syntax::{Expr, Name, Node, Part, Place, Span, TypeName};
+use lus_syntax::{Expr, Infix, Name, Node, Part, Place, Span, TypeName};
 
 /// Whether an expression is plainly of a type: a value that is written, or a variable that is declared so.
 fn is_of<'t>(given: Given<'t>, expr: &Expr, type_name: &TypeName) -> bool {
@@ -143,6 +145,17 @@ fn branches<'t>(
     })
 }
 
+/// What is said of a condition that a sum or a product has as an operand, with numbers in the place of all of its equation.
+fn counted_up<'t>(given: Given<'t>, said: Said<'t>, expr: &'t Expr) -> Said<'t> {
+    match (expr, given.equation_with(expr)) {
+        (Expr::Binary(Infix::Compute(_), _, _), Some(equation)) => Said {
+            repair: Some(Repair::Numbers(&equation.right)),
+            ..said
+        },
+        _ => said,
+    }
+}
+
 /// An operand of another type than its operator wants.
 fn wrong_operand<'t>(
     given: Given<'t>,
@@ -167,6 +180,10 @@ fn wrong_operand<'t>(
             ..said
         });
     }
+    let said = said.suspecting(operand, wanted.kind);
+    if wanted.kind == Kind::Int && found == Kind::Bool {
+        return Some(counted_up(given, said, expr));
+    }
     match operand {
         Expr::Name(name) if wanted.kind == Kind::Bool && found == Kind::Int => Some(Said {
             advice: "nonzero",
@@ -175,9 +192,9 @@ fn wrong_operand<'t>(
                 ..words
             },
             repair: Some(Repair::Compared(name.span, matches!(expr, Expr::Unary(_, _, _)))),
-            ..said.suspecting(operand, wanted.kind)
+            ..said
         }),
-        _ => Some(said.suspecting(operand, wanted.kind)),
+        _ => Some(said),
     }
 }
 
@@ -206,6 +223,55 @@ fn with_constructor<'t>(
     })
 }
 
+/// What is said, with a note on the values of an enumeration where one operand is of one and the other a number or a truth value.
+fn with_values<'t>(
+    given: Given<'t>,
+    said: Said<'t>,
+    operand: &'t Expr,
+    kind: Kind,
+    other: Kind,
+) -> Option<Said<'t>> {
+    let names = constructors(given.tree, kind);
+    let compared = match said.words.owner {
+        "=" => Some((operand, "=")),
+        "<>" => Some((operand, "<>")),
+        _ => None,
+    };
+    (!names.is_empty() && matches!(other, Kind::Int | Kind::Bool)).then_some(Said {
+        declared: Some(&declaration(given.tree, kind)?.name),
+        listed: Some(Listed::Constructors(given.name(kind), names, compared)),
+        suspect: None,
+        ..said
+    })
+}
+
+/// What is said of the values of an `if` that is all that defines a variable: which type that has.
+fn with_choice<'t>(given: Given<'t>, said: Said<'t>, expr: &'t Expr) -> Option<Said<'t>> {
+    let equation = given.equation_with(expr)?;
+    if !matches!(expr, Expr::If(_, _, _, _))
+        || equation.left.len() != 1
+        || start_of(&equation.right).byte != start_of(expr).byte
+    {
+        return None;
+    }
+    let left = equation.left.first()?;
+    let variable = variable_named(given.node?, &left.text)?;
+    let own = match &variable.group.type_name {
+        TypeName::Bool(_) => "bool",
+        TypeName::Int(_) => "int",
+        TypeName::Declared(name) => name.text.as_str(),
+    };
+    Some(Said {
+        advice: "chosen",
+        words: Words {
+            first: &left.text,
+            own,
+            ..said.words
+        },
+        ..said
+    })
+}
+
 /// Two operands that have to have one type, and have two.
 fn alike<'t>(given: Given<'t>, expr: &'t Expr, one: Kind, other: Kind) -> Option<Said<'t>> {
     let (left, right) = pair(expr)?;
@@ -222,6 +288,9 @@ fn alike<'t>(given: Given<'t>, expr: &'t Expr, one: Kind, other: Kind) -> Option
     Some(
         with_constructor(given, said, left, one, other)
             .or(with_constructor(given, said, right, other, one))
+            .or(with_values(given, said, left, one, other))
+            .or(with_values(given, said, right, other, one))
+            .or(with_choice(given, said, expr))
             .unwrap_or(said),
     )
 }

@@ -2,6 +2,7 @@
 
 use crate::given::Given;
 use crate::kinds::{constructors, variable_at};
+use crate::listing::Listed;
 use crate::repair::Repair;
 use crate::said::{Said, Words};
 use lus_faults::{extent_of, start_of, variable_named};
@@ -87,6 +88,16 @@ fn numbered(expr: &Expr) -> Option<&Expr> {
     }
 }
 
+/// What the note lists on a number or a truth value in the place of one of an enumeration.
+fn listed_of<'t>(given: Given<'t>, wanted: Kind, found: Kind) -> Option<Listed<'t>> {
+    let names = constructors(given.tree, wanted);
+    (!names.is_empty() && matches!(found, Kind::Int | Kind::Bool)).then_some(Listed::Constructors(
+        given.name(wanted),
+        names,
+        None,
+    ))
+}
+
 /// A right side that has another type than its variable.
 pub fn value<'t>(given: Given<'t>, wanted: Member, found: Kind) -> Option<Said<'t>> {
     let equation = equation_at(given)?;
@@ -99,6 +110,7 @@ pub fn value<'t>(given: Given<'t>, wanted: Member, found: Kind) -> Option<Said<'
     let said = Said {
         declared: Some(variable_named(given.node?, &left.text)?.name),
         suspect: Some((left, found)),
+        listed: listed_of(given, wanted.kind, found),
         ..Said::of("value", span, words)
     };
     match numbered(&equation.right) {

@@ -2,8 +2,9 @@
 
 use crate::kinds::name_of;
 use crate::said::Words;
+use lus_faults::start_of;
 use lus_program::Kind;
-use lus_syntax::{Equation, Name, Node, Place, Tree};
+use lus_syntax::{Equation, Expr, Name, Node, Place, Tree};
 use std::alloc::Global;
 
 /// The source, the node and the place of a fault of types. A constant may stand where there is no node.
@@ -28,6 +29,21 @@ impl<'t> Given<'t> {
             Some(node) => node.equations.as_slice(),
             None => &[],
         }
+    }
+
+    /// The equation whose right side has an expression in it.
+    pub fn equation_with(self, expr: &Expr) -> Option<&'t Equation> {
+        let byte = start_of(expr).byte;
+        let mut start = 0;
+        let mut found = None;
+        for equation in self.equations() {
+            let own = start_of(&equation.right).byte;
+            if start <= own && own <= byte {
+                start = own;
+                found = Some(equation);
+            }
+        }
+        found
     }
 
     /// The name of a type.

@@ -1,6 +1,6 @@
 //! Types as a source declares them.
 
-use lus_faults::declared_type;
+use lus_faults::{declared_type, resolved, value_of};
 use lus_program::Kind;
 use lus_syntax::{
     Definition, Fields, Group, Label, Lead, Name, Part, Tree, TypeDeclaration, TypeName,
@@ -113,6 +113,11 @@ pub fn value(tree: &Tree, kind: Kind) -> Option<&str> {
         Kind::Int => Some("0"),
         _ => Some(constructors(tree, kind).first()?.text.as_str()),
     }
+}
+
+/// A value of a type of this name; none of a structure.
+pub fn value_of_type<'t>(tree: &'t Tree, type_name: &'t TypeName) -> Option<&'t str> {
+    value_of(resolved(tree, type_name, tree.types.len())?)
 }
 
 /// The label of a number, of an enumeration or of `bool`.

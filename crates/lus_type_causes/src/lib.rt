@@ -6,6 +6,7 @@ mod clashes;
 mod declared;
 mod given;
 mod kinds;
+mod listing;
 mod members;
 mod operators;
 mod reaching;

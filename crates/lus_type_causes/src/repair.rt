@@ -1,10 +1,12 @@
 //! Changes of the text that mend a fault of types, and the fields that there are.
 
 use crate::given::Given;
-use crate::kinds::part_named;
+use crate::kinds::{part_named, value_of_type};
+use crate::listing::counting;
 use crate::reaching::{Through, through_edit};
-use lus_faults::{Edit, bytes_at, nearest, slice_of};
-use lus_syntax::{Fields, Group, Name, Part, Span};
+use lus_declarations::type_span;
+use lus_faults::{Edit, bytes_at, nearest, slice_of, variable_named};
+use lus_syntax::{Expr, Fields, Group, Name, Part, Span};
 use std::alloc::{AllocError, Global};
 
 /// How many fields of a structure are told.
@@ -25,6 +27,10 @@ pub enum Repair<'t> {
     Exchange(Span, Span),
     /// A part of an expression in its place.
     Part(Span, Span),
+    /// The fields that a structure lacks, behind a byte.
+    Fields(usize, &'t [Fields], &'t [Part]),
+    /// Numbers in the place of the conditions among the operands of sums and products.
+    Numbers(&'t Expr),
     /// A comparison with zero behind a number, with parentheses where an operator stands right before it.
     Compared(Span, bool),
 }
@@ -64,7 +70,7 @@ fn field_edit(alloc: Global, name: &Name, groups: &[Fields]) -> Result<Option<Ed
 }
 
 /// Appends names, with commas between and an `and` before the last; of many the first, and how many others there are.
-fn push_names(text: &mut String, names: &[&str]) -> Result<(), AllocError> {
+pub fn push_names(text: &mut String, names: &[&str]) -> Result<(), AllocError> {
     let count = names.len();
     let told = names.get(..MOST_TOLD).unwrap_or(names);
     for (place, name) in told.iter().enumerate() {
@@ -118,6 +124,33 @@ fn branches_edit(alloc: Global, lacking: Lacking<'_>) -> Result<Edit, AllocError
     })
 }
 
+/// A value for each field that a structure lacks.
+fn fields_edit(
+    given: Given<'_>,
+    byte: usize,
+    groups: &[Fields],
+    parts: &[Part],
+) -> Result<Option<Edit>, AllocError> {
+    let mut text = String::new(given.alloc);
+    for group in groups {
+        for name in &group.names {
+            if part_named(parts, &name.text).is_some() {
+                continue;
+            }
+            let Some(value) = value_of_type(given.tree, &group.type_name) else {
+                return Ok(None);
+            };
+            let field = name.text.as_str();
+            write!(text, "; {field} = {value}")?;
+        }
+    }
+    Ok(Some(Edit {
+        byte,
+        length: 0,
+        text,
+    }))
+}
+
 /// The change of a source that exchanges two parts of it, the first of which stands before the second.
 fn exchanging(alloc: Global, source: &str, first: Span, second: Span) -> Result<Edit, AllocError> {
     let (one, other) = (slice_of(source, first), slice_of(source, second));
@@ -131,7 +164,7 @@ fn exchanging(alloc: Global, source: &str, first: Span, second: Span) -> Result<
 }
 
 /// The names of the variables of groups.
-fn variables_of(alloc: Global, groups: &[Group]) -> Result<Vec<&str>, AllocError> {
+pub fn variables_of(alloc: Global, groups: &[Group]) -> Result<Vec<&str>, AllocError> {
     let mut names = Vec::new(alloc);
     for group in groups {
         for name in &group.names {
@@ -141,22 +174,67 @@ fn variables_of(alloc: Global, groups: &[Group]) -> Result<Vec<&str>, AllocError
     Ok(names)
 }
 
-/// The note on a call of which one variable is to take all outputs: how each is taken.
+/// Appends how the outputs of a called node are declared that have no variable, from a place among them on, but for those whose names are
+/// taken.
+fn push_declared(
+    given: Given<'_>,
+    note: &mut String,
+    outputs: &[Group],
+    from: usize,
+) -> Result<(), AllocError> {
+    let (mut place, mut front) = (0usize, ", with `var ");
+    for group in outputs {
+        let of = slice_of(given.source, type_span(&group.type_name));
+        for name in &group.names {
+            let text = name.text.as_str();
+            let is_taken = match given.node {
+                Some(node) => variable_named(node, text).is_some(),
+                None => true,
+            };
+            if place >= from && !is_taken {
+                write!(note, "{front}{text}: {of};")?;
+                front = " ";
+            }
+            place = place.saturating_add(1);
+        }
+    }
+    note.push_str(if front == " " { "`." } else { "." })
+}
+
+/// The names on the left of an equation, of which one is told.
+fn left_with<'t>(given: Given<'t>, name: &Name) -> &'t [Name] {
+    for equation in given.equations() {
+        for left in &equation.left {
+            if left.span.start.byte == name.span.start.byte {
+                return equation.left.as_slice();
+            }
+        }
+    }
+    &[]
+}
+
+/// The note on a call whose outputs have too few variables: how each is taken.
 pub fn note_on_outputs(
-    alloc: Global,
+    given: Given<'_>,
     owner: &str,
     left: &Name,
     outputs: &[Group],
 ) -> Result<String, AllocError> {
-    let names = variables_of(alloc, outputs)?;
-    let first = left.text.as_str();
-    let mut note = format!(in alloc; "`{owner}` has the outputs ")?;
+    let names = variables_of(given.alloc, outputs)?;
+    let own = left_with(given, left);
+    let mut note = format!(in given.alloc; "`{owner}` has the outputs ")?;
     push_names(&mut note, &names)?;
-    write!(note, ". Each needs a variable, as in `({first}")?;
-    for name in names.get(1..).unwrap_or(&[]) {
-        write!(note, ", {name}")?;
+    note.push_str(". Each needs a variable, as in `(")?;
+    for (place, output) in names.iter().enumerate() {
+        let comma = if place == 0 { "" } else { ", " };
+        let name = match own.get(place) {
+            Some(name) => name.text.as_str(),
+            None => *output,
+        };
+        write!(note, "{comma}{name}")?;
     }
-    write!(note, ") = {owner}(..);`.")?;
+    write!(note, ") = {owner}(..);`")?;
+    push_declared(given, &mut note, outputs, own.len())?;
     Ok(note)
 }
 
@@ -172,6 +250,8 @@ pub fn edit_of(given: Given<'_>, repair: Repair<'_>) -> Result<Option<Edit>, All
             text: String::from_str(alloc, sign)?,
         })),
         Repair::Through(through) => through_edit(given, through),
+        Repair::Fields(byte, groups, parts) => fields_edit(given, byte, groups, parts),
+        Repair::Numbers(right) => counting(given, right),
         Repair::Part(whole, part) => Ok(Some(Edit {
             byte: whole.start.byte,
             length: whole.length,

@@ -10,10 +10,11 @@ alike | `{owner}` expects two values of the same type, found `{wanted}` and `{fo
 branches | the branches of the `merge` have different types, `{wanted}` and `{found}`
 condition | - | A number is not a condition. Compare it, as in `x <> 0`.
 compared | - | `=>` is the implication between two conditions. Numbers are compared by `>=`.
-reckoned | - | To get a number from a `bool`, write `if c then 1 else 0`.
+reckoned | - | To get a number from a `bool`, write `(if c then 1 else 0)`.
 tested | - | A constructor is not a condition. Compare with it, as in `x = On`.
 ordered | - | Constructors are not numbers, and have no order. Compare them with `=` or `<>`.
 structured | - | A structure is not an operand. Use its fields, as in `p.x`.
+chosen | - | `{first}` has type `{own}`, and so has each value of an `if` that defines it.
 foreign | - | `{member}` is a constructor of `{own}`. Those of `{other}` are `{first}` and the others of its declaration.
 values | variables on the left: {number}; values on the right: {count} | Only a call returns several values, one for each output. Write an equation for each variable.
 exchanged | - | Perhaps arguments {number} and {place} are exchanged.
@@ -25,11 +26,16 @@ one | `{owner}` takes {number} argument, found {count}
 lacking | `{owner}` takes {number} arguments, found {count}: missing `{member}: {wanted}` | Arguments are in the order of the inputs: this one is number {place}.
 results | `{owner}` returns {count} values, expected one | A call with several results is alone on the right of an equation, as in `(a, b) = f(x);`.
 label | type `{wanted}` has no constructor `{member}`
+placed | - | A `merge` has one branch for each constructor, or for `true` and `false`, in any order. Choose the values of new ones: `{first}` is a placeholder.
+held | - | A `merge` has one branch for each constructor, in any order. Choose the values of new ones: `{first}` is a placeholder, and `({member} -> ({first} -> pre {own}) when {member}({other}))` holds the last value.
+held_true | - | A `merge` has one branch for `true` and one for `false`. Choose the value of the new one: `{first}` is a placeholder, and `(true -> ({first} -> pre {own}) when {other})` holds the last value.
+held_false | - | A `merge` has one branch for `true` and one for `false`. Choose the value of the new one: `{first}` is a placeholder, and `(false -> ({first} -> pre {own}) when not {other})` holds the last value.
 missing | missing branch `{member}` of type `{found}` | A `merge` has one branch for each constructor, or for `true` and `false`, in any order.
 repeated | {count} branches have the label `{member}` | A `merge` has one branch for each constructor, or for `true` and `false`, in any order.
 nameless | `{wanted}` has no field `{member}`
 fieldless | a value of type `{wanted}` has no fields
 constructor | a value of type `{wanted}` has no fields | A constructor is written alone: `{member}`. To test for it, compare, as in `x = {member}`.
+completed | - | A structure gives each field exactly once, in any order. Choose the values of new ones: those here are placeholders.
 unset | missing field `{member}` | A structure gives each field exactly once, in any order.
 reset | the field `{member}` has {count} values | A structure gives each field exactly once, in any order.
 clock | this clock does not fit `{member}`, which has type `{wanted}` | A clock is a `bool`, as in `when c` and `when not c`, or an enumeration, as in `when A(k)`.

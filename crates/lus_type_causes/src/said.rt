@@ -1,6 +1,7 @@
 //! What is said of a fault of types, before texts are made of it.
 
 use crate::given::Given;
+use crate::listing::{Listed, note_on_listed, push_further};
 use crate::repair::{Repair, edit_of, note_on_fields, note_on_outputs};
 use crate::rows::row;
 use lus_faults::{Finding, extent_of};
@@ -25,7 +26,7 @@ pub struct Words<'t> {
 
 /// What is said of a fault: a row of texts and their words, what is marked, expressions of a type, a declaration, or a variable that has
 /// the wanted type, a change of the text, the first of the variables that take what a call gives, and the variable whose declared type
-/// may be wrong, with the type that it would have then.
+/// may be wrong, with the type that it would have then; and what the note lists by its names.
 #[derive(Clone, Copy)]
 pub struct Said<'t> {
     pub row: &'static str,
@@ -37,6 +38,7 @@ pub struct Said<'t> {
     pub declared: Option<&'t Name>,
     pub variable: Option<&'t Name>,
     pub repair: Option<Repair<'t>>,
+    pub listed: Option<Listed<'t>>,
     pub taking: Option<&'t Name>,
     pub suspect: Option<(&'t Name, Kind)>,
 }
@@ -66,6 +68,7 @@ impl<'t> Said<'t> {
             declared: None,
             variable: None,
             repair: None,
+            listed: None,
             taking: None,
             suspect: None,
         }
@@ -157,11 +160,15 @@ pub fn finding_of(given: Given<'_>, said: &Said<'_>) -> Result<Finding, AllocErr
     if let Some(left) = said.taking
         && let Some(called) = given.node_named(said.words.owner)
     {
-        finding.note = Some(note_on_outputs(alloc, said.words.owner, left, &called.outputs)?);
+        finding.note = Some(note_on_outputs(given, said.words.owner, left, &called.outputs)?);
     }
     if let Some(Repair::Field(_, groups)) = said.repair {
         finding.note = Some(note_on_fields(alloc, said.words.wanted, groups)?);
     }
+    if let Some(listed) = said.listed {
+        finding.note = Some(note_on_listed(given, listed)?);
+    }
+    push_further(given, said, &mut finding)?;
     if let Some(repair) = said.repair {
         finding.edit = edit_of(given, repair)?;
     }

@@ -5,9 +5,10 @@ use crate::guards::{Chooser, Guard, chooser_of, keep_in_mind};
 use crate::kind::Kind;
 use crate::known::Scope;
 use crate::same::{are_same, bare, text_of};
-use crate::warning::Warning;
+use crate::warning::warning;
 use indexmap::IndexMap;
-use lus_faults::{Edit, expressions_in, extent_of, start_of};
+use lus_diagnostics::Diagnostic;
+use lus_faults::{Edit, Related, expressions_in, extent_of, start_of};
 use lus_syntax::{Expr, Infix, Span};
 use lus_values::Op;
 use std::alloc::{AllocError, Global};
@@ -195,7 +196,11 @@ fn note_on(by: Chooser) -> &'static str {
 }
 
 /// The warning of a division behind a test of its divisor, without what is related to it.
-fn told_alone(alloc: Global, source: &str, division: Division<'_>) -> Result<Warning, AllocError> {
+fn told_alone(
+    alloc: Global,
+    source: &str,
+    division: Division<'_>,
+) -> Result<Diagnostic, AllocError> {
     let text = text_of(source, division.whole);
     let by = divisor_text(source, division.divisor);
     let sentence = format!(in alloc;
@@ -203,7 +208,7 @@ fn told_alone(alloc: Global, source: &str, division: Division<'_>) -> Result<War
     )?;
     let span = extent_of(source, division.whole);
     let note = note_on(division.guard.by);
-    Warning::new(alloc, Kind::UnguardedDivision, span, sentence, note)
+    warning(alloc, Kind::UnguardedDivision, span, sentence, note)
 }
 
 /// Adds the test that seems to guard a division.
@@ -211,15 +216,15 @@ fn relate_test(
     alloc: Global,
     source: &str,
     division: Division<'_>,
-    warning: &mut Warning,
+    told: &mut Diagnostic,
 ) -> Result<(), AllocError> {
     let label = String::from_str(
         alloc,
         "this test chooses a result, but keeps nothing from running",
     )?;
-    warning
-        .finding
-        .relate(extent_of(source, division.guard.test), label)
+    let span = extent_of(source, division.guard.test);
+    told.related.push(Related { span, label })?;
+    Ok(())
 }
 
 /// The warning of a division behind a test of its divisor.
@@ -227,11 +232,11 @@ pub(crate) fn unguarded_division(
     alloc: Global,
     source: &str,
     division: Division<'_>,
-) -> Result<Warning, AllocError> {
-    let mut warning = told_alone(alloc, source, division)?;
-    relate_test(alloc, source, division, &mut warning)?;
+) -> Result<Diagnostic, AllocError> {
+    let mut told = told_alone(alloc, source, division)?;
+    relate_test(alloc, source, division, &mut told)?;
     let by = divisor_text(source, division.divisor);
     let place = extent_of(source, division.divisor);
-    warning.finding.edit = Some(never_zero(alloc, by, place)?);
-    Ok(warning)
+    told.edit = Some(never_zero(alloc, by, place)?);
+    Ok(told)
 }

@@ -2,8 +2,10 @@
 
 use crate::kind::Kind;
 use crate::known::{Known, Scope};
-use crate::warning::Warning;
+use crate::warning::warning;
 use indexmap::IndexMap;
+use lus_diagnostics::Diagnostic;
+use lus_faults::Related;
 use lus_syntax::{Equation, Expr, Label, Name, Test};
 use std::alloc::{AllocError, Global};
 
@@ -103,7 +105,7 @@ pub(crate) fn sampling<'t>(all: &AllFixed<'t>, expr: &'t Expr) -> Option<FixedTe
 }
 
 /// The warning of a test of a variable that is always the same, without where that one is defined.
-fn told_alone(alloc: Global, found: FixedTest<'_>) -> Result<Warning, AllocError> {
+fn told_alone(alloc: Global, found: FixedTest<'_>) -> Result<Diagnostic, AllocError> {
     let name = clock_of(found.test);
     let text = name.text.as_str();
     let value = found.fixed.value;
@@ -111,15 +113,21 @@ fn told_alone(alloc: Global, found: FixedTest<'_>) -> Result<Warning, AllocError
     let sentence = format!(in alloc;
         "the clock `{text}` is always `{value}`, so this is there {word}"
     )?;
-    Warning::new(alloc, Kind::ConstantClock, name.span, sentence, note)
+    warning(alloc, Kind::ConstantClock, name.span, sentence, note)
 }
 
 /// The warning of a test of a variable that is always the same.
-pub(crate) fn constant_clock(alloc: Global, found: FixedTest<'_>) -> Result<Warning, AllocError> {
-    let mut warning = told_alone(alloc, found)?;
+pub(crate) fn constant_clock(
+    alloc: Global,
+    found: FixedTest<'_>,
+) -> Result<Diagnostic, AllocError> {
+    let mut told = told_alone(alloc, found)?;
     let text = clock_of(found.test).text.as_str();
     let value = found.fixed.value;
     let label = format!(in alloc; "`{text}` is `{value}` here")?;
-    warning.finding.relate(found.fixed.name.span, label)?;
-    Ok(warning)
+    told.related.push(Related {
+        span: found.fixed.name.span,
+        label,
+    })?;
+    Ok(told)
 }

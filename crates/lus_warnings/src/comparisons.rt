@@ -4,7 +4,8 @@ use crate::kind::Kind;
 use crate::known::{Known, Scope};
 use crate::numbers::of_numbers;
 use crate::same::{are_same, text_of};
-use crate::warning::Warning;
+use crate::warning::warning;
+use lus_diagnostics::Diagnostic;
 use lus_faults::extent_of;
 use lus_syntax::{Expr, Infix};
 use lus_values::Op;
@@ -103,10 +104,10 @@ pub(crate) fn constant_comparison(
     alloc: Global,
     source: &str,
     found: Comparison<'_>,
-) -> Result<Warning, AllocError> {
+) -> Result<Diagnostic, AllocError> {
     let (holds, note) = words_of(found.always);
     let text = text_of(source, found.expr);
     let sentence = format!(in alloc; "`{text}` is always {holds}")?;
     let span = extent_of(source, found.expr);
-    Warning::new(alloc, Kind::ConstantComparison, span, sentence, note)
+    warning(alloc, Kind::ConstantComparison, span, sentence, note)
 }

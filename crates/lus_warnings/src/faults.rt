@@ -7,7 +7,8 @@ ghost use Rattle.lus_values.specs.Values.{int};
 use crate::kind::Kind;
 use crate::known::{Known, Scope};
 use crate::same::{bare, text_of};
-use crate::warning::Warning;
+use crate::warning::warning;
+use lus_diagnostics::Diagnostic;
 use lus_faults::extent_of;
 use lus_syntax::{Expr, Infix, Prefix};
 use lus_values::{Op, Value, try_apply};
@@ -101,9 +102,9 @@ pub(crate) fn constant_fault(
     alloc: Global,
     source: &str,
     found: Fault<'_>,
-) -> Result<Warning, AllocError> {
+) -> Result<Diagnostic, AllocError> {
     let text = text_of(source, found.expr);
     let sentence = format!(in alloc; "`{text}` never has a value")?;
     let span = extent_of(source, found.expr);
-    Warning::new(alloc, Kind::ConstantFault, span, sentence, found.note)
+    warning(alloc, Kind::ConstantFault, span, sentence, found.note)
 }

@@ -1,8 +1,6 @@
 //! What is warned of.
 
-use std::fmt;
-
-/// What a warning is of. Printed as `unused_input` and the like.
+/// What a warning is of.
 #[derive(Clone, Copy)]
 pub enum Kind {
     /// A type that nothing names.
@@ -25,6 +23,12 @@ pub enum Kind {
     ConstantComparison,
     /// An operation that never has a value.
     ConstantFault,
+    /// A constant whose name a variable has.
+    HiddenConstant,
+    /// A choice whose branches are the same.
+    SameBranches,
+    /// A first value on the wrong side of `fby` or `->`.
+    ExchangedSides,
 }
 
 impl Kind {
@@ -41,12 +45,9 @@ impl Kind {
             Kind::ConstantClock => "constant_clock",
             Kind::ConstantComparison => "constant_comparison",
             Kind::ConstantFault => "constant_fault",
+            Kind::HiddenConstant => "hidden_constant",
+            Kind::SameBranches => "same_branches",
+            Kind::ExchangedSides => "exchanged_sides",
         }
-    }
-}
-
-impl fmt::Display for Kind {
-    fn fmt<W: fmt::Write>(&self, f: &mut fmt::Formatter<W>) -> fmt::Result {
-        f.write_str(self.as_str())
     }
 }

@@ -2,20 +2,20 @@
 #![tactic(auto)]
 
 mod branches;
+mod choices;
 mod clocks;
 mod comparisons;
+mod exchanges;
 mod faults;
 mod guards;
+mod hidden;
 mod kind;
 mod known;
 mod numbers;
 mod same;
 mod scope;
 mod table;
-mod telling;
 mod unused;
 mod warning;
 
-pub use kind::Kind;
-pub use telling::push_warnings;
-pub use warning::{Warning, warnings_of};
+pub use warning::warnings_of;

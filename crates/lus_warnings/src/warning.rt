@@ -1,42 +1,33 @@
 //! Warnings of an accepted source.
 
 use crate::branches::{Division, Divisions, divisions_in, unguarded_division};
+use crate::choices::{choice_in, same_branches};
 use crate::clocks::{AllFixed, FixedTest, constant_clock, fixed_by, fixed_in, sampling};
 use crate::comparisons::{Comparison, comparison_in, constant_comparison};
+use crate::exchanges::of_exchange;
 use crate::faults::{Fault, constant_fault, fault_in};
+use crate::hidden::{Constants, Hidden, constants_of, hidden_by, hidden_constant};
 use crate::kind::Kind;
 use crate::known::{Scope, Values, values_by_name};
 use crate::unused::{Declaration, unused_in};
-use lus_faults::{Finding, expressions_in};
+use lus_diagnostics::{Code, Diagnostic, Site};
+use lus_faults::{Exchanged, exchange_in, expressions_in};
 use lus_grammar::parse;
 use lus_syntax::{Expr, Group, Node, Refusal, Span, Token, Tree, lex};
 use std::alloc::{AllocError, Global};
 
-/// What is warned of, where it stands, and what is said of it: a sentence, further places, a note, and how to write it.
-#[derive(Drop)]
-pub struct Warning {
-    pub kind: Kind,
-    pub span: Span,
-    pub finding: Finding,
-}
-
-impl Warning {
-    /// A warning with a sentence and a note.
-    pub(crate) fn new(
-        alloc: Global,
-        kind: Kind,
-        span: Span,
-        sentence: String,
-        note: &str,
-    ) -> Result<Warning, AllocError> {
-        let mut finding = Finding::new(alloc, sentence, span.length).with_note(alloc, note)?;
-        finding.place = Some(span.start);
-        Ok(Warning {
-            kind,
-            span,
-            finding,
-        })
-    }
+/// A warning with a sentence and a note.
+pub(crate) fn warning(
+    alloc: Global,
+    kind: Kind,
+    span: Span,
+    sentence: String,
+    note: &str,
+) -> Result<Diagnostic, AllocError> {
+    let code = Code::Warning(kind.as_str());
+    let mut told = Diagnostic::new(alloc, code, Site::of(span), sentence);
+    told.note = Some(String::from_str(alloc, note)?);
+    Ok(told)
 }
 
 /// What is said of a declaration that nothing uses: before its name, behind it, and a note.
@@ -76,11 +67,11 @@ fn words_of(kind: Kind) -> (&'static str, &'static str, &'static str) {
 }
 
 /// The warning of a declaration that nothing uses.
-fn of_unused(alloc: Global, found: Declaration<'_>) -> Result<Warning, AllocError> {
+fn of_unused(alloc: Global, found: Declaration<'_>) -> Result<Diagnostic, AllocError> {
     let (front, behind, note) = words_of(found.kind);
     let name = found.name.text.as_str();
     let sentence = format!(in alloc; "{front}`{name}`{behind}")?;
-    Warning::new(alloc, found.kind, found.name.span, sentence, note)
+    warning(alloc, found.kind, found.name.span, sentence, note)
 }
 
 /// What is warned of.
@@ -91,6 +82,9 @@ enum Cause<'t> {
     Comparison(Comparison<'t>),
     Clock(FixedTest<'t>),
     Fault(Fault<'t>),
+    Hidden(Hidden<'t>),
+    Choice(&'t Expr),
+    Exchanged(Exchanged<'t>),
 }
 
 /// Appends the clocks of some groups that are always the same.
@@ -127,6 +121,12 @@ fn push_expressions<'t>(
         }
         if let Some(clock) = sampling(fixed, inner) {
             found.push(Cause::Clock(clock))?;
+        }
+        if let Some(choice) = choice_in(source, inner) {
+            found.push(Cause::Choice(choice))?;
+        }
+        if let Some(sides) = exchange_in(alloc, scope.node, inner)? {
+            found.push(Cause::Exchanged(sides))?;
         }
     }
     Ok(())
@@ -181,6 +181,19 @@ fn push_scope<'t>(
     push_by_fixed(alloc, source, scope, &fixed, found)
 }
 
+/// Appends the constants that the variables of some groups hide.
+fn push_hidden<'t>(
+    alloc: Global,
+    constants: &Constants<'t>,
+    groups: &'t [Group],
+    found: &mut Vec<Cause<'t>>,
+) -> Result<(), AllocError> {
+    for hidden in &hidden_by(alloc, constants, groups)? {
+        found.push(Cause::Hidden(*hidden))?;
+    }
+    Ok(())
+}
+
 /// Appends what is warned of in a node, by the values of constants.
 fn push_node<'t>(
     alloc: Global,
@@ -202,7 +215,11 @@ fn push_nodes<'t>(
     found: &mut Vec<Cause<'t>>,
 ) -> Result<(), AllocError> {
     let values = values_by_name(alloc, tree)?;
+    let constants = constants_of(alloc, tree)?;
     for node in &tree.nodes {
+        push_hidden(alloc, &constants, &node.inputs, found)?;
+        push_hidden(alloc, &constants, &node.outputs, found)?;
+        push_hidden(alloc, &constants, &node.locals, found)?;
         push_node(alloc, source, &values, node, found)?;
     }
     Ok(())
@@ -225,13 +242,16 @@ fn causes_in<'t>(
 }
 
 /// The warning of what is warned of.
-fn warning_of(alloc: Global, source: &str, cause: Cause<'_>) -> Result<Warning, AllocError> {
+fn warning_of(alloc: Global, source: &str, cause: Cause<'_>) -> Result<Diagnostic, AllocError> {
     match cause {
         Cause::Unused(unused) => of_unused(alloc, unused),
         Cause::Division(division) => unguarded_division(alloc, source, division),
         Cause::Comparison(comparison) => constant_comparison(alloc, source, comparison),
         Cause::Clock(clock) => constant_clock(alloc, clock),
         Cause::Fault(fault) => constant_fault(alloc, source, fault),
+        Cause::Hidden(hidden) => hidden_constant(alloc, hidden),
+        Cause::Choice(choice) => same_branches(alloc, source, choice),
+        Cause::Exchanged(sides) => of_exchange(alloc, source, sides),
     }
 }
 
@@ -240,12 +260,12 @@ fn warnings_by(
     alloc: Global,
     source: &str,
     causes: &[Cause<'_>],
-) -> Result<Vec<Warning>, AllocError> {
+) -> Result<Vec<Diagnostic>, AllocError> {
     let mut warnings = Vec::new(alloc);
     for cause in causes {
         warnings.push(warning_of(alloc, source, *cause)?)?;
     }
-    warnings.sort_by_key(|warning| warning.span.start.byte)?;
+    warnings.sort_by_key(|warning| warning.span(source).start.byte)?;
     Ok(warnings)
 }
 
@@ -256,7 +276,7 @@ fn warnings_in(
     tokens: &[Token<'_>],
     tree: &Tree,
     run: Option<&[&str]>,
-) -> Result<Vec<Warning>, AllocError> {
+) -> Result<Vec<Diagnostic>, AllocError> {
     let causes = causes_in(alloc, source, tokens, tree, run)?;
     warnings_by(alloc, source, &causes)
 }
@@ -267,7 +287,7 @@ pub fn warnings_of(
     alloc: Global,
     source: &str,
     run: Option<&[&str]>,
-) -> Result<Vec<Warning>, Refusal> {
+) -> Result<Vec<Diagnostic>, Refusal> {
     let tokens = lex(alloc, source)?;
     let tree = parse(alloc, &tokens)?;
     Ok(warnings_in(alloc, source, &tokens, &tree, run)?)

@@ -16,6 +16,7 @@ use Rattle.lus_simulation.specs.Lineages.{Lineage}
 use Rattle.lus_history.specs.Histories.{History, Right}
 use Rattle.lus_history.specs.Pasts.{lineage}
 use Rattle.lus_worlds.specs.declared.moment.Fault.{Fault as NamedFault}
+use Rattle.lus_windows.specs.declared.reasons.Explainer.{Explainer}
 use Rattle.lus_windows.specs.declared.reasons.Reasons.{Reasons}
 use Rattle.lus_windows.specs.Finding.{FaultsAt, NoneRefused}
 use Rattle.lus_windows.specs.Windows.{HasFollowed, have_slots}
@@ -82,10 +83,20 @@ pub data Tells (p : Program) (f : ℕ) (names : Names) (instance : Text) (first 
       → TellsEntry p f names instance (next_line number) (have_slots h) (lineage h) e.request e.reply text new
       → Tells p f names instance first (h ++ e ∷ []) (next_line number) new
 
+-- what these entries of an instance of this name leave was followed
+pub record Explains (p : Program) (f : ℕ) (instance : Text) (h : List Entry) (e : Explainer) : Type 0 where
+  pub followed : HasFollowed p f h e.window
+  pub named : string_bytes e.instance ≡ instance
+
+-- its next entry, on the line of this number, was told and followed
+pub record ExplainsNext (p : Program) (f : ℕ) (names : Names) (instance : Text) (number : ℕ) (h : List Entry) (e : Entry) (old new : Text)
+    (x : Explainer) : Type 0 where
+  pub explains : Explains p f instance (h ++ e ∷ []) x
+  pub tells : TellsEntry p f names instance number (have_slots h) (lineage h) e.request e.reply old new
+
 -- what these entries leave was followed, and their reasons were told
 pub record HasNoted (p : Program) (f : ℕ) (names : Names) (instance : Text) (first : ℕ) (h : List Entry) (r : Reasons) : Type 0 where
-  pub followed : HasFollowed p f h r.window
-  pub named : string_bytes r.instance ≡ instance
+  pub explains : Explains p f instance h r.explainer
   pub tells : Tells p f names instance first h r.line (string_bytes r.text)
 
 -- where a request is rightly refused for a fault behind a history, the fault is told

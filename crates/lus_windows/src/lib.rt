@@ -10,7 +10,7 @@ mod reasons;
 mod window;
 
 pub use picks::Pick;
-pub use reasons::Reasons;
+pub use reasons::{Explainer, Reasons};
 pub use window::Window;
 
 /// Where a request is rightly refused for a fault behind a history, its reason names the fault: that it can't be told is never so.

@@ -13,7 +13,7 @@ ghost use Rattle.lus_simulation.specs.Lineages.{Lineage};
 ghost use Rattle.lus_order.specs.Orders.{IsNarrow, NeedsVariables};
 ghost use Rattle.lus_worlds.specs.Finding.{IsReady};
 ghost use Rattle.lus_windows.specs.Finding.{FaultsAt, NoneRefused};
-ghost use Rattle.lus_windows.specs.Reasons.{HasHead, HasNoted, SaysBehind, SaysRefused, SaysRows, TellsEntry, rows_in};
+ghost use Rattle.lus_windows.specs.Reasons.{Explains, ExplainsNext, HasHead, HasNoted, SaysBehind, SaysRefused, SaysRows, TellsEntry, rows_in};
 ghost use Rattle.lus_windows.specs.Windows.{IsReached, entry_by, orders_in};
 
 use crate::faults::push_fault;
@@ -27,14 +27,20 @@ use lus_values::{Memory, Names, Row};
 use std::alloc::Global;
 use std::slice;
 
-/// The reasons of an instance's refused requests so far, a line each, and what is kept of its lineages.
+/// What is kept of an instance whose refused requests are explained as they come: its name, and what its entries left of its lineages.
+#[derive(Drop)]
+pub struct Explainer {
+    instance: String,
+    window: Window,
+    picked: Vec<Row>,
+}
+
+/// The reasons of an instance's refused requests so far, a line each.
 #[derive(Drop)]
 pub struct Reasons {
-    instance: String,
+    explainer: Explainer,
     line: u64,
-    window: Window,
     text: String,
-    picked: Vec<Row>,
 }
 
 /// Appends which of several rows it is.
@@ -181,6 +187,78 @@ fn push_refused(
     }
 }
 
+/// Appends the line of a request, which has this number, where that was refused.
+fn push_entry(
+    text: &mut String,
+    alloc: Global,
+    program: &Program,
+    names: &Names,
+    explainer: &Explainer,
+    line: u64,
+    request: &Request,
+    reply: &Reply,
+) -> Result<(), Memory>
+    ensures { let p = program_seen program.now in
+        let w = explainer.now.window in
+        OnOk result ((sure : Bool) (l : Lineage) → IsReady p (orders_in w) w.node → IsReached sure p w.node l w.reached
+        → TellsEntry p w.node names.now (string_bytes explainer.now.instance) line sure l request.now reply.now (string_bytes text.old) (string_bytes text.new)) }
+{
+    let Reply::Refused(why) = reply else {
+        return Ok(());
+    };
+    let window = &explainer.window;
+    push_head(text, &explainer.instance, line, *why)?;
+    push_refused(text, alloc, program, names, window, request, *why)?;
+    text.push_str("\n")?;
+    Ok(())
+}
+
+impl Explainer {
+    /// Before the first request of an instance of this name and node.
+    pub fn new(
+        alloc: Global,
+        program: &Program,
+        node: u32,
+        instance: &str,
+    ) -> Result<Explainer, Memory>
+        requires resolved { Resolved (program_seen program.now) }
+        requires node { node < length (program_seen program.now).nodes }
+        requires needs { Each NeedsVariables (program_seen program.now).nodes }
+        requires narrow { Each IsNarrow (program_seen program.now).nodes }
+        ensures { IfOk result (Explains (program_seen program.now) node instance.now []) }
+    {
+        Ok(Explainer {
+            instance: String::from_str(alloc, instance)?,
+            window: Window::new(alloc, program, node)?,
+            picked: Vec::new(alloc),
+        })
+    }
+
+    /// Goes on behind an entry, the instance's next, whose line has this number: appends a line that says why, where it was refused. What
+    /// is kept doesn't grow with the entries.
+    pub fn explain(
+        &mut self,
+        alloc: Global,
+        program: &Program,
+        names: &Names,
+        line: u64,
+        request: &Request,
+        reply: &Reply,
+        text: &mut String,
+    ) -> Result<(), Memory>
+        requires clocks { ProgramOnClocks (program_seen program.now) }
+        ensures { let p = program_seen program.now in
+            OnOk result ((f : ℕ) (instance : Text) (h : List Entry) (c : ℕ) → Explains p f instance h self.old
+            → ExplainsNext p f names.now instance line h (entry_by c request.now reply.now) (string_bytes text.old) (string_bytes text.new) self.new) }
+    {
+        push_entry(text, alloc, program, names, self, line, request, reply)?;
+        self.picked.clear();
+        let picked = &mut self.picked;
+        self.window
+            .follow(alloc, program, request, reply, &[], picked)
+    }
+}
+
 impl Reasons {
     /// Before the first request of an instance of this name and node, whose journal's first line has this number in the file.
     pub fn new(
@@ -197,11 +275,9 @@ impl Reasons {
         ensures { IfOk result (λ r. (names : PlainNames) → HasNoted (program_seen program.now) node names instance.now line [] r) }
     {
         Ok(Reasons {
-            instance: String::from_str(alloc, instance)?,
+            explainer: Explainer::new(alloc, program, node, instance)?,
             line,
-            window: Window::new(alloc, program, node)?,
             text: String::new(alloc),
-            picked: Vec::new(alloc),
         })
     }
 
@@ -220,31 +296,6 @@ impl Reasons {
         self.text.as_str()
     }
 
-    /// Appends the line of a request that was refused.
-    fn tell(
-        &mut self,
-        alloc: Global,
-        program: &Program,
-        names: &Names,
-        request: &Request,
-        reply: &Reply,
-    ) -> Result<(), Memory>
-        ensures tells { let p = program_seen program.now in
-            let f = self.old.window.node in
-            OnOk result ((sure : Bool) (l : Lineage) → IsReady p (orders_in self.old.window) f → IsReached sure p f l self.old.window.reached
-            → TellsEntry p f names.now (string_bytes self.old.instance) self.old.line sure l request.now reply.now (string_bytes self.old.text) (string_bytes self.new.text)) }
-        ensures same { OnOk result (self.new ≡ record self.old { text = self.new.text }) }
-    {
-        let Reply::Refused(why) = reply else {
-            return Ok(());
-        };
-        let text = &mut self.text;
-        push_head(text, &self.instance, self.line, *why)?;
-        push_refused(text, alloc, program, names, &self.window, request, *why)?;
-        text.push_str("\n")?;
-        Ok(())
-    }
-
     /// Goes on behind an entry, the next of the journal: says why, where it was refused.
     pub fn note(
         &mut self,
@@ -260,10 +311,8 @@ impl Reasons {
             → HasNoted p f names.now instance first (h ++ entry_by c request.now reply.now ∷ []) self.new) }
     {
         self.line = self.line.saturating_add(1);
-        self.tell(alloc, program, names, request, reply)?;
-        self.picked.clear();
-        let picked = &mut self.picked;
-        self.window
-            .follow(alloc, program, request, reply, &[], picked)
+        let text = &mut self.text;
+        self.explainer
+            .explain(alloc, program, names, self.line, request, reply, text)
     }
 }

@@ -124,14 +124,8 @@ each_real true (x ∷ r) (y ∷ t) e h k = ap₂ ◌∷◌ (either_real true x y
 each_real false (x ∷ r) (y ∷ t) e h k = ap₂ ◌∷◌ (either_real false x y h.0 k.0) (each_real false r t (omega (arith, e)) h.1 k.1)
 
 module _ (p : Program) (constructors : Constructors) (k : Kind) (l : Layout) (is : IsLayout p k l) where
-  abbrev IsOf : Value → Type 0
-  IsOf v = is_of_type p constructors k v ≡ true
-
   of_words : (v : Value) → HasType p constructors k (Some v) → Each HasSome (words l v)
   of_words v h = of_entry p constructors (λ u. Each HasSome (words l u)) k (subst (Each HasSome) (sym (words_nil l)) (nil_some (size l))) (λ u of. real_some (words l u) (words_real p constructors k l is u of)) v h
-
-  nil_long : length (words l nil) ≡ size l
-  nil_long = words_long l nil
 
   equal_words : 1 ≤ size l → (v w : Value) → HasType p constructors k (Some v) → HasType p constructors k (Some w) → apply (operators.Compute ops.Equal) (v ∷ w ∷ []) ≡ all_equal (words l v) (words l w)
   equal_words some v w h g =

@@ -5,4 +5,4 @@ endif
 let current_compiler = "lus"
 
 CompilerSet makeprg=lus_explain\ %:S
-CompilerSet errorformat=%f:%l:%c:\ %trror\ E%n:\ %m,%-G%.%#
+CompilerSet errorformat=%f:%l:%c:\ %trror\ E%n:\ %m,%f:%l:%c:\ %tarning\ %*[a-z_]:\ %m,%-G%.%#

@@ -55,6 +55,15 @@ pub struct Formal {
 
 #[repr(C)]
 #[derive(Default)]
+pub struct Bounds {
+    pub orders: u64,
+    pub row: u64,
+    pub instance_bytes: u64,
+    pub saved_bytes: u64,
+}
+
+#[repr(C)]
+#[derive(Default)]
 pub struct Entered {
     pub caller: u32,
     pub request: u32,
@@ -80,6 +89,7 @@ unsafe extern "C" {
     pub fn lus_nodes(program: &mut Handle, count: &mut u32) -> u32;
     pub fn lus_node_name(program: &mut Handle, node: u32, bytes: &mut u64, name: *mut u8, room: usize) -> u32;
     pub fn lus_formals(program: &mut Handle, node: u32, inputs: &mut u32, outputs: &mut u32) -> u32;
+    pub fn lus_cost(program: &mut Handle, node: u32, out: &mut Bounds) -> u32;
     pub fn lus_input(program: &mut Handle, node: u32, place: u32, out: &mut Formal, name: *mut u8, room: usize) -> u32;
     pub fn lus_output(program: &mut Handle, node: u32, place: u32, out: &mut Formal, name: *mut u8, room: usize) -> u32;
     pub fn lus_field(program: &mut Handle, of: u32, place: u32, out: &mut Formal, name: *mut u8, room: usize) -> u32;

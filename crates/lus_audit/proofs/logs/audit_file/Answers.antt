@@ -1,5 +1,6 @@
--- What was found of the bytes that were read is found of the files.
-use Rattle.std.proofs.Common.{◌≡◌, ◌∙◌, ap, inr, refl, subst, sym, None, Some}
+-- What was reported of the log is reported of the files.
+use Rattle.std.proofs.Common.{◌≡◌, ◌∙◌, ap, refl, subst, sym, None, Some}
+use Rattle.std.proofs.lemmas.Result.{IfErr-weaker, IfOk-weaker}
 use Rattle.std.specs.Arc.{arc_value}
 use Rattle.std.specs.Option.{option_map}
 use Rattle.lus_cli.specs.CodeSpecs.Codes.{program_of}
@@ -7,8 +8,7 @@ use Rattle.lus_cli.specs.Ends.{ReadFails}
 use Rattle.lus_cli.specs.MachineSpecs.Formals.{node_named}
 use Rattle.lus_hosting.proofs.LiveProofs.LiveLaws.{named_within}
 use Rattle.lus_audit.specs.Ends.{IsOfFile}
-use Rattle.lus_audit.specs.Logs.{IsLogFound, LogAuditFails}
-use Rattle.lus_audit.proofs.EndLemmas.{file_so, log_fails}
+use Rattle.lus_audit.proofs.LogEnds.{lost_fails}
 use Rattle.lus_audit.proofs.logs.audit_file.Goals as goal
 
 pub returns-in_default-clause-fault : goal.returns-in_default-clause-fault
@@ -16,11 +16,8 @@ returns-in_default-clause-fault g c =
     let none : node_named (program_of c.in_ok-program.program) c.args.task.node.now ≡ None = sym c.node.ensures ∙ ap (option_map _) c.in_default.is in
     (refl, (program_of c.in_ok-program.program, c.in_ok-program.ensures.accepted, none))
 
-pub returns-in_default-open-clause-fault : goal.returns-in_default-open-clause-fault
-returns-in_default-open-clause-fault g c = inr (program_of c.in_ok-program.program, c.in_ok-program.ensures.accepted)
-
-pub audit_log-requires : goal.audit_log-requires
-audit_log-requires g c =
+pub audit_node-requires : goal.audit_node-requires
+audit_node-requires g c =
     let same : program_of c.in_ok-program.program ≡ program_of (arc_value c.in-Ok.program) = ap program_of (sym c.in-Ok.ensures.ok) in
     let named : node_named (program_of c.in_ok-program.program) c.args.task.node.now ≡ Some c.in-Some.node.0 =
     sym c.node.ensures ∙ ap (option_map _) c.in-Some.is in
@@ -33,25 +30,24 @@ returns-clause-fault g c =
     let file = g.D.Folder.known c.args.folder.now c.args.task.program.now in
     let log = g.D.Folder.known c.args.folder.now c.args.task.log.now in
     let same : program_of c.in_ok-program.program ≡ program_of (arc_value c.in-Ok.program) = ap program_of (sym c.in-Ok.ensures.ok) in
-    let accepted = subst (IsOfFile file) same c.in_ok-program.ensures.accepted in
-    subst (LogAuditFails read_fails file log c.args.task.node.now) (sym c.fault_of.ensures)
-    (log_fails read_fails file log c.args.task.node.now c.in-Err.error (program_of (arc_value c.in-Ok.program)) _ _ accepted c.in-Ok-open.ensures.opened
-    c.new-2.ensures c.in-Err.ensures.blames)
+    IfErr-weaker c.audit_node.result _ _
+    (λ e lost. lost_fails read_fails file log c.args.task.node.now (program_of (arc_value c.in-Ok.program)) e
+    (subst (IsOfFile file) same c.in_ok-program.ensures.accepted) lost)
+    c.audit_node.ensures.fault
 
-pub returns-in-Ok-audit_log-clause-audited : goal.returns-in-Ok-audit_log-clause-audited
-returns-in-Ok-audit_log-clause-audited g c =
+pub returns-clause-audited : goal.returns-clause-audited
+returns-clause-audited g c =
     let file = g.D.Folder.known c.args.folder.now c.args.task.program.now in
-    let log = g.D.Folder.known c.args.folder.now c.args.task.log.now in
-    let p = program_of (arc_value c.in-Ok.program) in
     let same : program_of c.in_ok-program.program ≡ program_of (arc_value c.in-Ok.program) = ap program_of (sym c.in-Ok.ensures.ok) in
     let named : node_named (program_of c.in_ok-program.program) c.args.task.node.now ≡ Some c.in-Some.node.0 =
     sym c.node.ensures ∙ ap (option_map _) c.in-Some.is in
-    let report = c.in-Ok-audit_log.report in
+    IfOk-weaker c.audit_node.result _ _
+    (λ r found.
     record {
-      program = p;
+      program = program_of (arc_value c.in-Ok.program);
       accepted = subst (IsOfFile file) same c.in_ok-program.ensures.accepted;
       node = c.in-Some.node.0;
       named = subst (λ q. node_named q c.args.task.node.now ≡ Some c.in-Some.node.0) same named;
-      found = file_so (λ o. IsLogFound p c.in-Some.node.0 report.is_lawful o report.text.items) log _ _ c.in-Ok-open.ensures.opened c.new-2.ensures
-          (c.in-Ok-audit_log.ensures.sound, c.in-Ok-audit_log.ensures.complete);
-    }
+      found = found;
+    })
+    c.audit_node.ensures.audited

@@ -3,6 +3,7 @@ use Rattle.std.proofs.Common.{◌∙◌, ap, ◌++◌}
 use Rattle.std.proofs.lemmas.Result.{IfErr-weaker, IfOk-weaker}
 use Rattle.std.specs.Arc.{arc_value}
 use Rattle.lus_cli.specs.CodeSpecs.Codes.{program_of}
+use Rattle.lus_audit.specs.Ends.{shown}
 use Rattle.lus_audit.proofs.ReasonLaws.{explained}
 use Rattle.lus_audit.proofs.shell.explain.Goals as goal
 
@@ -13,7 +14,7 @@ returns-in-Ok-clause-ok g c =
     IfOk-weaker c.with_reasons.result _ _
     (λ r told.
     explained p report.wrong (g.S.Source.left c.args.source.now) report.text.items _ c.audit.new.observers.text.items r.text.items r.wrong c.new-text.ensures.items
-    told.0 c.in-Ok.ensures.sound c.in-Ok.ensures.complete (told.1 ∙ ap (λ t. report.text.items ++ t) c.deref.ensures.value))
+    told.0 c.in-Ok.ensures.sound c.in-Ok.ensures.complete (told.1 ∙ ap (λ t. shown report.text.items ++ t) c.deref.ensures.value))
     c.with_reasons.ensures.ok
 
 pub returns-in-Ok-clause-blames : goal.returns-in-Ok-clause-blames

@@ -7,10 +7,10 @@ use Rattle.lus_editing.proofs.serving.notify.Goals as goal
 
 pub returns-in_ok-said-in-Some : goal.returns-in_ok-said-in-Some
 returns-in_ok-said-in-Some g c =
-    subst (λ (o : Option SentText). IsNotified g.C.Compiler.accepts g.C.Compiler.refuses o (Some (string_bytes c.in_ok-said-in-Some.said)))
-    c.in-Some.ensures c.in_ok-said-in-Some.ensures
+    subst (λ (o : Option SentText). IsNotified o (Some (string_bytes c.in_ok-said-in-Some.said)))
+    c.in-Some.ensures tt
 
 pub returns-in-None : goal.returns-in-None
 returns-in-None g c =
-    subst (λ (o : Option SentText). IfOk c.heed.result (λ s. IsNotified g.C.Compiler.accepts g.C.Compiler.refuses o (option_map string_bytes s)))
+    subst (λ (o : Option SentText). IfOk c.heed.result (λ s. IsNotified o (option_map string_bytes s)))
     c.in-None.ensures (nothing_owed c.heed.result)

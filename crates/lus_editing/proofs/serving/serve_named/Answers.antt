@@ -16,7 +16,7 @@ returns-in_ok-said-in-Some g c =
     let problem = stage_problem c.args.server.now.stage (bytes_eq c.args.method.now (codes "initialize")) in
     let gives = Gives g.C.Compiler.renames c.args.server.now (bytes_eq c.args.method.now (codes "textDocument/rename")) in
     let said = string_bytes c.in_ok-said-in-Some.said in
-    subst (λ (i : Option Data). IsNamedAnswered g.C.Compiler.accepts g.C.Compiler.refuses g.C.Compiler.renames c.args.server.now c.args.method.now i (parameters_of d)
+    subst (λ (i : Option Data). IsNamedAnswered g.C.Compiler.renames c.args.server.now c.args.method.now i (parameters_of d)
     (Some said))
     c.in-Some.ensures
     (λ plain. subst (λ (t : Text). IsAnswer (gives (parameters_of d)) problem t said) (c.as_str.ensures.value ∙ c.in_ok-id-in-Some.ensures.text plain)
@@ -26,8 +26,8 @@ pub returns-in-None : goal.returns-in-None
 returns-in-None g c =
     let d = view c.args.message.now in
     subst (λ (i : Option Data). IfOk c.notify.result (λ o.
-    IsNamedAnswered g.C.Compiler.accepts g.C.Compiler.refuses g.C.Compiler.renames c.args.server.now c.args.method.now i (parameters_of d) (option_map string_bytes o)))
+    IsNamedAnswered g.C.Compiler.renames c.args.server.now c.args.method.now i (parameters_of d) (option_map string_bytes o)))
     c.in-None.ensures
     (subst (λ (p : Option Data). IfOk c.notify.result (λ o.
-    IsNamedAnswered g.C.Compiler.accepts g.C.Compiler.refuses g.C.Compiler.renames c.args.server.now c.args.method.now None p (option_map string_bytes o)))
+    IsNamedAnswered g.C.Compiler.renames c.args.server.now c.args.method.now None p (option_map string_bytes o)))
     c.parameters_of-parameters.ensures c.notify.ensures)

@@ -10,12 +10,12 @@ pub returns-in-Some : goal.returns-in-Some
 returns-in-Some g c =
     let d = view c.args.message.now in
     subst (λ (m : Option Text). IfOk c.serve_named.result (λ o.
-    IsAnsweredBy g.C.Compiler.accepts g.C.Compiler.refuses g.C.Compiler.renames c.args.server.now m (id_of d) (parameters_of d) (option_map string_bytes o)))
+    IsAnsweredBy g.C.Compiler.renames c.args.server.now m (id_of d) (parameters_of d) (option_map string_bytes o)))
     c.in-Some.ensures c.serve_named.ensures
 
 pub returns-in-None : goal.returns-in-None
 returns-in-None g c =
     let d = view c.args.message.now in
     subst (λ (m : Option Text). IfOk c.serve_nameless.result (λ o.
-    IsAnsweredBy g.C.Compiler.accepts g.C.Compiler.refuses g.C.Compiler.renames c.args.server.now m (id_of d) (parameters_of d) (option_map string_bytes o)))
+    IsAnsweredBy g.C.Compiler.renames c.args.server.now m (id_of d) (parameters_of d) (option_map string_bytes o)))
     c.in-None.ensures c.serve_nameless.ensures

@@ -14,7 +14,7 @@ use Rattle.lus_explain.proofs.script.script_of.Goals as goal
 pub returns-in_default-clause-answer : goal.returns-in_default-clause-answer
 returns-in_default-clause-answer c =
     let none : node_named (program_of c.args.program.now) c.args.node.now ≡ None = sym c.node.ensures ∙ ap (option_map (λ (n : NodeId). n.0)) c.in_default.is in
-    is_unknown c.in_ok-unknown_node.field-0 none c.in_ok-unknown_node.ensures.status c.in_ok-unknown_node.ensures.text
+    is_unknown c.in_ok-unknown_node.field-0 none c.in_ok-unknown_node.ensures.status
 
 pub index-requires : goal.index-requires
 index-requires c =

@@ -6,7 +6,7 @@ use Rattle.lus_hosting.proofs.recovering.recover_log.Goals as goal
 use Rattle.lus_hosting.proofs.recovering.recover_log.Goals.{in-Noted+in_ok-bytes-in-Noted, in-Right+in_ok-bytes-in-Right}
 
 pub loop-lines-init : goal.loop-lines-init
-loop-lines-init g c = read_start _ _ _ _ (none_named (record { by_name = c.with_hasher.result }) c.with_hasher.ensures.empty)
+loop-lines-init g c = read_start _ _ _ _ (none_named c.no_instances-instances.result c.no_instances-instances.ensures)
 
 pub loop-lines-preserved : goal.loop-lines-preserved
 loop-lines-preserved g c =

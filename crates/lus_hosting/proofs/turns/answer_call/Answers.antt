@@ -3,7 +3,7 @@ use Rattle.std.proofs.Common.{inr, subst, sym}
 use Rattle.std.specs.Arc.{arc_value}
 use Rattle.std.proofs.lemmas.Result.{IfOk-weaker}
 use Rattle.lus_lines.specs.Lines.{IsPlain}
-use Rattle.lus_reactions.specs.Reactions.{IsCallTo}
+use Rattle.lus_sessions.specs.Calls.{IsCallTo}
 use Rattle.lus_live_instance.specs.MachineSpecs.CodeSpecs.Codes.{program_of}
 use Rattle.lus_live_instance.specs.MachineSpecs.Constructors.{names_of}
 use Rattle.lus_hosting.proofs.AnswerLaws.{answered_call, answered_denied, no_call_line, spelled_words}

@@ -1,103 +1,106 @@
--- A node is played on in the form that was asked for, or the program lacks it.
-use Rattle.std.proofs.Common.{◌≡◌, ◌∙◌, ap, refl, subst, sym, None, Some}
+-- A node is played on behind what was asked for, or the program lacks it.
+use Rattle.std.proofs.Common.{rules, ◌≡◌, ◌∙◌, ◌∷◌, [], ap, inl, false, map, refl, string_bytes, subst, sym, None, Some}
+use Rattle.std.proofs.lemmas.Result.{err_from_is_err_and}
 use Rattle.std.specs.Arc.{arc_value}
 use Rattle.std.specs.Option.{option_map}
+use Rattle.lus_bursts.specs.Syncs.{WasKept}
 use Rattle.lus_cli.specs.Changes.{change}
 use Rattle.lus_cli.specs.CodeSpecs.Codes.{program_of}
 use Rattle.lus_cli.specs.Ends.{ReadFails}
+use Rattle.lus_cli.specs.MachineSpecs.Constructors.{names_of}
 use Rattle.lus_cli.specs.MachineSpecs.Formals.{node_named}
-use Rattle.lus_told.proofs.LiveProofs.LiveLaws.{named_within}
-use Rattle.lus_live.specs.CommandLine.{csv, form_seen, journal, json, task_seen}
 use Rattle.lus_cli.specs.Programs.{IsOfFile}
-use Rattle.lus_live.specs.Ends.{Opens}
-use Rattle.lus_live.proofs.EndLemmas.{lived, logged_stays, task_behind, task_logged, task_played, told_csv, told_json}
+use Rattle.lus_live_instance.proofs.LiveLaws.{named_within}
+use Rattle.lus_live.specs.CommandLine.{task_seen}
+use Rattle.lus_live.specs.Ends.{IsBeginFault, Opens, TaskEnds, parties_of}
+use Rattle.lus_live.specs.Limits.{are_kept}
+use Rattle.lus_live.proofs.EndLemmas.{begin_fails, costs_more, told_of}
+use Rattle.lus_live.proofs.RunLaws.{lines_are}
 use Rattle.lus_live.proofs.shell.play_on.Goals as goal
 
 pub returns-in_default-clause-ends : goal.returns-in_default-clause-ends
 returns-in_default-clause-ends g c =
     let none : node_named (program_of c.in_ok-program.program) c.args.task.node.now ≡ None = sym c.node.ensures ∙ ap (option_map _) c.in_default.is in
-    ((refl, (program_of c.in_ok-program.program, c.in_ok-program.ensures.accepted, none)), refl, (refl, refl), (refl, refl))
+    (inl (refl, (program_of c.in_ok-program.program, c.in_ok-program.ensures.accepted, none)), refl, (refl, refl), (refl, refl))
 
-pub returns-in-Journal-clause-ends : goal.returns-in-Journal-clause-ends
-returns-in-Journal-clause-ends g c =
-    let same : program_of c.in_ok-program.program ≡ program_of (arc_value c.in-Ok.program) = ap program_of (sym c.in-Ok.ensures.ok) in
-    let named : node_named (program_of c.in_ok-program.program) c.args.task.node.now ≡ Some c.in-Some.node.0 =
-    sym c.node.ensures ∙ ap (option_map _) c.in-Some.is in
-    task_played (ReadFails g.row.D-File.Denot g.D.File.Source.left g.D.File.Source.failures) (g.D.Folder.known c.args.folder.now)
-    (Opens g.row.L.Denot g.L.Log.opens c.args.log.now) (g.S.Source.left c.args.input.now) (g.S.Source.left c.run_live.new.input)
-    (change (g.L.Sink.written c.args.log.now) (g.L.Sink.written c.args.log.now) (g.L.Sink.failures c.args.log.now) (g.L.Sink.failures c.args.log.now)) (task_seen c.args.task) (program_of (arc_value c.in-Ok.program)) c.in-Some.node.0
-    (change (g.O.Sink.written c.args.output.now) (g.O.Sink.written c.run_live.new.output) (g.O.Sink.failures c.args.output.now) (g.O.Sink.failures c.run_live.new.output))
-    (subst (IsOfFile (g.D.Folder.known c.args.folder.now c.args.task.program.now)) same c.in_ok-program.ensures.accepted)
-    (subst (λ p. node_named p c.args.task.node.now ≡ Some c.in-Some.node.0) same named) journal c.run_live.result (ap form_seen c.in-Journal.is)
-    (lived _ _ _ _ _ _ _ c.run_live.ensures.all c.run_live.ensures.begun)
+-- the node is one of the program's
+pub cost-cost-requires : goal.cost-cost-requires
+cost-cost-requires g c =
+    named_within (program_of c.in_ok-program.program) c.args.task.node.now c.in-Some.node.0 (sym c.node.ensures ∙ ap (option_map _) c.in-Some.is)
 
-pub returns-in-Behind-clause-ends : goal.returns-in-Behind-clause-ends
-returns-in-Behind-clause-ends g c =
-    let same : program_of c.in_ok-program.program ≡ program_of (arc_value c.in-Ok.program) = ap program_of (sym c.in-Ok.ensures.ok) in
-    let named : node_named (program_of c.in_ok-program.program) c.args.task.node.now ≡ Some c.in-Some.node.0 =
-    sym c.node.ensures ∙ ap (option_map _) c.in-Some.is in
-    task_behind (ReadFails g.row.D-File.Denot g.D.File.Source.left g.D.File.Source.failures) (g.D.Folder.known c.args.folder.now)
-    (Opens g.row.L.Denot g.L.Log.opens c.args.log.now) (g.S.Source.left c.args.input.now) (g.S.Source.left c.go_on.new.input)
-    (change (g.L.Sink.written c.args.log.now) (g.L.Sink.written c.args.log.now) (g.L.Sink.failures c.args.log.now) (g.L.Sink.failures c.args.log.now)) (task_seen c.args.task) (program_of (arc_value c.in-Ok.program)) c.in-Some.node.0
-    (change (g.O.Sink.written c.args.output.now) (g.O.Sink.written c.go_on.new.output) (g.O.Sink.failures c.args.output.now) (g.O.Sink.failures c.go_on.new.output))
-    (subst (IsOfFile (g.D.Folder.known c.args.folder.now c.args.task.program.now)) same c.in_ok-program.ensures.accepted)
-    (subst (λ p. node_named p c.args.task.node.now ≡ Some c.in-Some.node.0) same named) c.in-Behind.journal.now c.go_on.result
-    (ap form_seen c.in-Behind.is) (refl, refl) c.go_on.ensures.ends
+pub returns-then-not-are_kept-clause-ends : goal.returns-then-not-are_kept-clause-ends
+returns-then-not-are_kept-clause-ends g c =
+    let more : are_kept c.args.task.limits c.cost-cost.result ≡ false = search rules in (
+      costs_more c.args.task.limits (g.D.Folder.known c.args.folder.now c.args.task.program.now) c.args.task.node.now c.in_ok-program.program c.in-Some.node.0
+          c.cost-cost.result c.in_ok-program.ensures.accepted (sym c.node.ensures ∙ ap (option_map _) c.in-Some.is) c.cost-cost.ensures.exact more,
+      refl,
+      (refl, refl),
+      (refl, refl),
+    )
 
-pub returns-in-Logged-clause-ends : goal.returns-in-Logged-clause-ends
-returns-in-Logged-clause-ends g c =
-    let same : program_of c.in_ok-program.program ≡ program_of (arc_value c.in-Ok.program) = ap program_of (sym c.in-Ok.ensures.ok) in
-    let named : node_named (program_of c.in_ok-program.program) c.args.task.node.now ≡ Some c.in-Some.node.0 =
+pub begin-requires : goal.begin-requires
+begin-requires g c =
+    let p = program_of (arc_value c.in-Ok.program) in
+    let same : program_of c.in_ok-program.program ≡ p = ap program_of (sym c.in-Ok.ensures.ok) in
+    let found : node_named (program_of c.in_ok-program.program) c.args.task.node.now ≡ Some c.in-Some.node.0 =
     sym c.node.ensures ∙ ap (option_map _) c.in-Some.is in
-    task_logged (ReadFails g.row.D-File.Denot g.D.File.Source.left g.D.File.Source.failures) (g.D.Folder.known c.args.folder.now)
-    (Opens g.row.L.Denot g.L.Log.opens c.args.log.now) (g.S.Source.left c.args.input.now) (g.S.Source.left c.log_behind.new.input)
-    (change (g.L.Sink.written c.args.log.now) (g.L.Sink.written c.log_behind.new.log) (g.L.Sink.failures c.args.log.now) (g.L.Sink.failures c.log_behind.new.log)) (task_seen c.args.task) (program_of (arc_value c.in-Ok.program)) c.in-Some.node.0
-    (change (g.O.Sink.written c.args.output.now) (g.O.Sink.written c.log_behind.new.output) (g.O.Sink.failures c.args.output.now) (g.O.Sink.failures c.log_behind.new.output))
-    (subst (IsOfFile (g.D.Folder.known c.args.folder.now c.args.task.program.now)) same c.in_ok-program.ensures.accepted)
-    (subst (λ p. node_named p c.args.task.node.now ≡ Some c.in-Some.node.0) same named) c.in-Logged.journal.now c.log_behind.result
-    (ap form_seen c.in-Logged.is) c.log_behind.ensures.ends
+    let named : node_named p c.args.task.node.now ≡ Some c.in-Some.node.0 = subst (λ q. node_named q c.args.task.node.now ≡ Some c.in-Some.node.0) same found in
+    named_within p c.args.task.node.now c.in-Some.node.0 named
 
-pub run_json-requires : goal.run_json-requires
-run_json-requires g c =
-    let same : program_of c.in_ok-program.program ≡ program_of (arc_value c.in-Ok.program) = ap program_of (sym c.in-Ok.ensures.ok) in
-    let named : node_named (program_of c.in_ok-program.program) c.args.task.node.now ≡ Some c.in-Some.node.0 =
-    sym c.node.ensures ∙ ap (option_map _) c.in-Some.is in
-    named_within (program_of (arc_value c.in-Ok.program)) c.args.task.node.now c.in-Some.node.0
-    (subst (λ p. node_named p c.args.task.node.now ≡ Some c.in-Some.node.0) same named)
+pub run-requires-clause-scribe : goal.run-requires-clause-scribe
+run-requires-clause-scribe g c =
+    let p = program_of (arc_value c.in-Ok.program) in
+    let named : c.names.result.now ≡ names_of p = search rules in
+    let one : map string_bytes c.deref-2.result.now ≡ c.args.task.caller.now ∷ [] = ap (map string_bytes) c.deref-2.ensures.value ∙ c.in-Ok-callers.ensures in
+    lines_are c.names.result.now (names_of p) c.args.task.node.now (map string_bytes c.deref-2.result.now) (parties_of (task_seen c.args.task)) named refl one
 
-pub run_csv-requires : goal.run_csv-requires
-run_csv-requires g c =
-    let same : program_of c.in_ok-program.program ≡ program_of (arc_value c.in-Ok.program) = ap program_of (sym c.in-Ok.ensures.ok) in
-    let named : node_named (program_of c.in_ok-program.program) c.args.task.node.now ≡ Some c.in-Some.node.0 =
+pub returns-in_err-begun-clause-ends : goal.returns-in_err-begun-clause-ends
+returns-in_err-begun-clause-ends g c =
+    let p = program_of (arc_value c.in-Ok.program) in
+    let same : program_of c.in_ok-program.program ≡ p = ap program_of (sym c.in-Ok.ensures.ok) in
+    let found : node_named (program_of c.in_ok-program.program) c.args.task.node.now ≡ Some c.in-Some.node.0 =
     sym c.node.ensures ∙ ap (option_map _) c.in-Some.is in
-    named_within (program_of (arc_value c.in-Ok.program)) c.args.task.node.now c.in-Some.node.0
-    (subst (λ p. node_named p c.args.task.node.now ≡ Some c.in-Some.node.0) same named)
-
-pub returns-in-Json-clause-ends : goal.returns-in-Json-clause-ends
-returns-in-Json-clause-ends g c =
-    let same : program_of c.in_ok-program.program ≡ program_of (arc_value c.in-Ok.program) = ap program_of (sym c.in-Ok.ensures.ok) in
-    let named : node_named (program_of c.in_ok-program.program) c.args.task.node.now ≡ Some c.in-Some.node.0 =
-    sym c.node.ensures ∙ ap (option_map _) c.in-Some.is in
-    task_played (ReadFails g.row.D-File.Denot g.D.File.Source.left g.D.File.Source.failures) (g.D.Folder.known c.args.folder.now)
-    (Opens g.row.L.Denot g.L.Log.opens c.args.log.now) (g.S.Source.left c.args.input.now) (g.S.Source.left c.run_json.new.input)
-    (change (g.L.Sink.written c.args.log.now) (g.L.Sink.written c.args.log.now) (g.L.Sink.failures c.args.log.now) (g.L.Sink.failures c.args.log.now)) (task_seen c.args.task) (program_of (arc_value c.in-Ok.program)) c.in-Some.node.0
-    (change (g.O.Sink.written c.args.output.now) (g.O.Sink.written c.run_json.new.output) (g.O.Sink.failures c.args.output.now) (g.O.Sink.failures c.run_json.new.output))
-    (subst (IsOfFile (g.D.Folder.known c.args.folder.now c.args.task.program.now)) same c.in_ok-program.ensures.accepted)
-    (subst (λ p. node_named p c.args.task.node.now ≡ Some c.in-Some.node.0) same named) json c.run_json.result (ap form_seen c.in-Json.is)
-    (told_json _ _ _ _ _ _ c.run_json.ensures.all c.run_json.ensures.begun)
+    let named : node_named p c.args.task.node.now ≡ Some c.in-Some.node.0 = subst (λ q. node_named q c.args.task.node.now ≡ Some c.in-Some.node.0) same found in
+    let accepted : IsOfFile (g.D.Folder.known c.args.folder.now c.args.task.program.now) p =
+    subst (IsOfFile (g.D.Folder.known c.args.folder.now c.args.task.program.now)) same c.in_ok-program.ensures.accepted in
+    let e = err_from_is_err_and c.from_residual-in_err-begun.result c.from_residual-in_err-begun.ensures.1 in
+    let fault : IsBeginFault (task_seen c.args.task).file e.0 = subst (IsBeginFault (task_seen c.args.task).file) (sym e.2) c.in_err-begun.ensures.fault in
+    subst (λ r. TaskEnds (ReadFails g.row.D-File.Denot g.D.File.Source.left g.D.File.Source.failures) (g.D.Folder.known c.args.folder.now)
+    (Opens g.row.L.Denot g.L.Log.opens c.args.log.now) (λ s. WasKept s g.row.L.Denot g.L.Syncs.syncs g.L.Sink.written) (g.S.Source.left c.args.input.now)
+    (g.S.Source.left c.args.input.now) (change (g.L.Sink.written c.args.log.now) (g.L.Sink.written c.begin.new.log) (g.L.Sink.failures c.args.log.now) (g.L.Sink.failures c.begin.new.log)) (task_seen c.args.task) r
+    (change (g.O.Sink.written c.args.output.now) (g.O.Sink.written c.args.output.now) (g.O.Sink.failures c.args.output.now) (g.O.Sink.failures c.args.output.now))) (sym e.1) (
+      begin_fails (ReadFails g.row.D-File.Denot g.D.File.Source.left g.D.File.Source.failures) c.args.task.limits (g.D.Folder.known c.args.folder.now c.args.task.program.now)
+          c.args.task.node.now (task_seen c.args.task).file e.0 p c.in-Some.node.0 accepted named fault,
+      refl,
+      (c.begin.ensures.written, c.begin.ensures.failures),
+      (refl, refl),
+    )
 
 pub returns-clause-ends : goal.returns-clause-ends
 returns-clause-ends g c =
-    let same : program_of c.in_ok-program.program ≡ program_of (arc_value c.in-Ok.program) = ap program_of (sym c.in-Ok.ensures.ok) in
-    let named : node_named (program_of c.in_ok-program.program) c.args.task.node.now ≡ Some c.in-Some.node.0 =
+    let p = program_of (arc_value c.in-Ok.program) in
+    let same : program_of c.in_ok-program.program ≡ p = ap program_of (sym c.in-Ok.ensures.ok) in
+    let found : node_named (program_of c.in_ok-program.program) c.args.task.node.now ≡ Some c.in-Some.node.0 =
     sym c.node.ensures ∙ ap (option_map _) c.in-Some.is in
-    task_played (ReadFails g.row.D-File.Denot g.D.File.Source.left g.D.File.Source.failures) (g.D.Folder.known c.args.folder.now)
-    (Opens g.row.L.Denot g.L.Log.opens c.args.log.now) (g.S.Source.left c.args.input.now) (g.S.Source.left c.run_csv.new.input)
-    (change (g.L.Sink.written c.args.log.now) (g.L.Sink.written c.args.log.now) (g.L.Sink.failures c.args.log.now) (g.L.Sink.failures c.args.log.now)) (task_seen c.args.task) (program_of (arc_value c.in-Ok.program)) c.in-Some.node.0
-    (change (g.O.Sink.written c.args.output.now) (g.O.Sink.written c.run_csv.new.output) (g.O.Sink.failures c.args.output.now) (g.O.Sink.failures c.run_csv.new.output))
-    (subst (IsOfFile (g.D.Folder.known c.args.folder.now c.args.task.program.now)) same c.in_ok-program.ensures.accepted)
-    (subst (λ p. node_named p c.args.task.node.now ≡ Some c.in-Some.node.0) same named) csv c.run_csv.result (ap form_seen c.in-Csv.is)
-    (told_csv _ _ _ _ _ _ c.run_csv.ensures.all c.run_csv.ensures.begun)
-
-pub returns-in-Logged-clause-stays : goal.returns-in-Logged-clause-stays
-returns-in-Logged-clause-stays g c = logged_stays _ c.in-Logged.journal.now _ (ap form_seen c.in-Logged.is)
+    let named : node_named p c.args.task.node.now ≡ Some c.in-Some.node.0 = subst (λ q. node_named q c.args.task.node.now ≡ Some c.in-Some.node.0) same found in
+    let accepted : IsOfFile (g.D.Folder.known c.args.folder.now c.args.task.program.now) p =
+    subst (IsOfFile (g.D.Folder.known c.args.folder.now c.args.task.program.now)) same c.in_ok-program.ensures.accepted in
+    let asked = task_seen c.args.task in record {
+      program = p;
+      accepted = accepted;
+      node = c.in-Some.node.0;
+      named = named;
+      holds = record {
+        start = c.in_ok-begun.begun.start;
+        before = c.in_ok-begun.begun.instance.reactor.history;
+        begins = c.in_ok-begun.ensures.begins;
+        opened = c.in_ok-begun.ensures.opened;
+        tells =
+            told_of asked.form asked.file (WasKept asked.is_synced g.row.L.Denot g.L.Syncs.syncs g.L.Sink.written) p c.in-Some.node.0 asked c.in_ok-begun.begun.start
+            (g.S.Source.left c.args.input.now) (g.S.Source.left c.run.new.input) c.in_ok-begun.begun.instance.reactor.history
+            (g.L.Sink.written c.args.log.now) (g.L.Sink.written c.begin.new.log) (g.L.Sink.written c.run.new.log)
+            (g.L.Sink.failures c.args.log.now) (g.L.Sink.failures c.begin.new.log) (g.L.Sink.failures c.run.new.log)
+            (change (g.O.Sink.written c.args.output.now) (g.O.Sink.written c.run.new.output) (g.O.Sink.failures c.args.output.now) (g.O.Sink.failures c.run.new.output))
+            c.run.result c.begin.ensures.written c.begin.ensures.failures c.run.ensures.tells;
+      };
+    }

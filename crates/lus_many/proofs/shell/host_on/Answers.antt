@@ -1,5 +1,5 @@
 -- Instances of a node are hosted, with a log or without one, or the program lacks it.
-use Rattle.std.proofs.Common.{◌≡◌, ◌∙◌, ap, refl, subst, sym, None, Some}
+use Rattle.std.proofs.Common.{◌≡◌, ◌∙◌, rules, ap, inl, false, refl, subst, sym, None, Some}
 use Rattle.std.specs.Arc.{arc_value}
 use Rattle.std.specs.Option.{option_map}
 use Rattle.lus_bursts.specs.Syncs.{IsSafe}
@@ -9,6 +9,8 @@ use Rattle.lus_cli.specs.Ends.{ReadFails}
 use Rattle.lus_cli.specs.MachineSpecs.Formals.{node_named}
 use Rattle.lus_hosting.proofs.LiveProofs.LiveLaws.{named_within}
 use Rattle.lus_cli.specs.Programs.{IsOfFile}
+use Rattle.lus_live.specs.Limits.{are_kept}
+use Rattle.lus_live.proofs.EndLemmas.{costs_more}
 use Rattle.lus_many.specs.CommandLine.{session_seen, sessions_seen, task_seen}
 use Rattle.lus_many.specs.Ends.{IsReadied}
 use Rattle.lus_many.proofs.EndLemmas.{hosted, session_stays, task_goes, task_ran}
@@ -17,7 +19,22 @@ use Rattle.lus_many.proofs.shell.host_on.Goals as goal
 pub returns-in_default-clause-ends : goal.returns-in_default-clause-ends
 returns-in_default-clause-ends g c =
     let none : node_named (program_of c.in_ok-program.program) c.args.task.node.now ≡ None = sym c.node.ensures ∙ ap (option_map _) c.in_default.is in
-    ((refl, (program_of c.in_ok-program.program, c.in_ok-program.ensures.accepted, none)), refl, (refl, refl), (refl, refl))
+    (inl (refl, (program_of c.in_ok-program.program, c.in_ok-program.ensures.accepted, none)), refl, (refl, refl), (refl, refl))
+
+-- the node is one of the program's
+pub cost-cost-requires : goal.cost-cost-requires
+cost-cost-requires g c =
+    named_within (program_of c.in_ok-program.program) c.args.task.node.now c.in-Some.node.0 (sym c.node.ensures ∙ ap (option_map _) c.in-Some.is)
+
+pub returns-then-not-are_kept-clause-ends : goal.returns-then-not-are_kept-clause-ends
+returns-then-not-are_kept-clause-ends g c =
+    let more : are_kept c.args.task.limits c.cost-cost.result ≡ false = search rules in (
+      costs_more c.args.task.limits (g.D.Folder.known c.args.folder.now c.args.task.program.now) c.args.task.node.now c.in_ok-program.program c.in-Some.node.0
+          c.cost-cost.result c.in_ok-program.ensures.accepted (sym c.node.ensures ∙ ap (option_map _) c.in-Some.is) c.cost-cost.ensures.exact more,
+      refl,
+      (refl, refl),
+      (refl, refl),
+    )
 
 pub host_in-requires : goal.host_in-requires
 host_in-requires g c =

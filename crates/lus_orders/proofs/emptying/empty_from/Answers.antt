@@ -1,4 +1,4 @@
-use Rattle.std.proofs.Common.{◌≡◌, ◌∙◌, ◌+◌, ◌-◌, ◌≤◌, ◌++◌, None, ap, map, take, drop, length, replicate, arith}
+use Rattle.std.proofs.Common.{◌∙◌, ◌+◌, ◌-◌, None, ap, map, replicate, arith}
 use Rattle.lus_orders.specs.Classes.{replaced}
 use Rattle.lus_orders.proofs.Called.{mapped_replaced, part_long}
 use Rattle.lus_orders.proofs.emptying.empty_from.Goals as goal

@@ -1,19 +1,12 @@
--- Bytes are refused as no text, or as the text that they are, at a line of it.
-use Rattle.std.proofs.Common.{◌≡◌, ◌∙◌, ap, sym, subst, option_map}
+-- Bytes are refused as no text, or as the text that they are.
+use Rattle.std.proofs.Common.{subst}
 use Rattle.lus_cli.specs.MachineSpecs.Acceptance.{RefusedWith}
-use Rattle.lus_reports.specs.Explanations.{IsExplained, is_no_text, is_refused}
-use Rattle.lus_reports.specs.Lines.{line_at}
+use Rattle.lus_cli.specs.HostSpecs.Sources.{is_no_text, is_refused}
 use Rattle.lus_reports.proofs.explanation.explain.Goals as goal
 
-pub returns-in-Err-clause-explained : goal.returns-in-Err-clause-explained
-returns-in-Err-clause-explained c = is_no_text c.in-Err.ensures.refused
+pub returns-in-Err-clause-refused : goal.returns-in-Err-clause-refused
+returns-in-Err-clause-refused c other = is_no_text c.in-Err.ensures.refused
 
-pub returns-in-Err-compile-clause-explained : goal.returns-in-Err-compile-clause-explained
-returns-in-Err-compile-clause-explained c =
-    let bytes = c.args.bytes.now in
-    let r = c.in-Err-compile.refusal in
-    let same = c.in-Ok.ensures.same in
-    let shown : option_map (λ line. line.now) c.line_at-line.result ≡ line_at bytes r.line =
-    c.line_at-line.ensures ∙ ap (λ t. line_at t r.line) same in
-    subst (IsExplained bytes r) (sym shown)
-    (is_refused c.in-Ok.ensures.short (λ h. subst (λ t. RefusedWith t r) same (c.in-Err-compile.ensures.first h)))
+pub returns-in-Err-compile-clause-refused : goal.returns-in-Err-compile-clause-refused
+returns-in-Err-compile-clause-refused c other =
+    is_refused c.in-Ok.ensures.short (subst (λ t. RefusedWith t c.in-Err-compile.refusal) c.in-Ok.ensures.same (c.in-Err-compile.ensures.first other))

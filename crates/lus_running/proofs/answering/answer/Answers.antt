@@ -7,8 +7,8 @@ use Rattle.lus_running.proofs.answering.answer.Goals as goal
 pub split_at_mut-own-requires : goal.split_at_mut-own-requires
 split_at_mut-own-requires g c = omega (arith, c.requires.long.row)
 
-pub copy_cells-requires : goal.copy_cells-requires
-copy_cells-requires g c = c.requires.long.cells ∙ sym c.requires.long.next_cells
+pub copy_alike-requires : goal.copy_alike-requires
+copy_alike-requires g c = c.requires.long.cells ∙ sym c.requires.long.next_cells
 
 pub follow_class-requires-clause-room : goal.follow_class-requires-clause-room
 follow_class-requires-clause-room g c =
@@ -16,7 +16,7 @@ follow_class-requires-clause-room g c =
     let split = c.split_at_mut-own.ensures in
     record {
       cells = long.cells;
-      next = c.copy_cells.auto.copies ∙ long.next_cells;
+      next = c.copy_alike.auto.copies ∙ long.next_cells;
       own = c.begin.auto.own ∙ split.front_len;
       behind = omega (arith, split.back_len, long.row);
     }
@@ -30,13 +30,13 @@ pub returns-then-not-made : goal.returns-then-not-made
 returns-then-not-made g c =
     let s = c.args.on.now in
     let i = map entry_of c.args.inputs.now in
-    answers_not g.T.Held.entry s i c.args.cells.now c.copy_cells.new.copies c.begin.new.own c.follow_class.new.next c.follow_class.new.own c.in_ok-made.made
-    c.in_ok-copy_cells.ensures (c.in_ok-begin.ensures ∙ ap (λ n. begun n i) c.split_at_mut-own.ensures.front_len) c.in_ok-made.ensures c.if-not-made.true
+    answers_not g.T.Held.entry s i c.args.cells.now c.copy_alike.new.copies c.begin.new.own c.follow_class.new.next c.follow_class.new.own c.in_ok-made.made
+    c.in_ok-copy_alike.ensures (c.in_ok-begin.ensures ∙ ap (λ n. begun n i) c.split_at_mut-own.ensures.front_len) c.in_ok-made.ensures c.if-not-made.true
 
 pub returns : goal.returns
 returns g c =
     let s = c.args.on.now in
     let i = map entry_of c.args.inputs.now in
-    answers_with g.T.Held.entry s i c.args.cells.now c.copy_cells.new.copies c.begin.new.own c.follow_class.new.next c.follow_class.new.own c.in_ok-made.made
-    c.in_ok-copy_cells.ensures (c.in_ok-begin.ensures ∙ ap (λ n. begun n i) c.split_at_mut-own.ensures.front_len) c.in_ok-made.ensures c.if-not-made.false
+    answers_with g.T.Held.entry s i c.args.cells.now c.copy_alike.new.copies c.begin.new.own c.follow_class.new.next c.follow_class.new.own c.in_ok-made.made
+    c.in_ok-copy_alike.ensures (c.in_ok-begin.ensures ∙ ap (λ n. begun n i) c.split_at_mut-own.ensures.front_len) c.in_ok-made.ensures c.if-not-made.false
     (length c.args.inputs.now) c.args.outputs c.in_ok-found.found c.in_ok-found.ensures

@@ -8,6 +8,6 @@ use Rattle.lus_test.proofs.shell.try_all.Given as goal
 
 abbrev pub invariant-loop-file : goal.invariant-loop-file
 invariant-loop-file g l =
-    l.status ≡ 0 → l.is_written ≡ false
+    l.status ≡ 0 → l.mode.is_written ≡ false
     → All (TablePasses (g.D.Folder.known l.folder) (program_of (arc_value l.program)) (option_map (λ name. name.now) l.node))
     (map (λ file. file.now) (take l.file-index l.files))

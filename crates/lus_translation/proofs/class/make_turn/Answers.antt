@@ -3,10 +3,10 @@ use Rattle.std.proofs.lemmas.Option.{slice_get_past}
 use Rattle.lus_values.specs.Lists.{item}
 use Rattle.lus_program.specs.View.{node_of, program_seen}
 use Rattle.lus_classes.specs.View.{steps_of}
-use Rattle.lus_translation.specs.Forms.{equation_calls, equation_cells, equation_firsts, equation_steps}
-use Rattle.lus_translation.specs.Building.{next_cell, next_first}
+use Rattle.lus_translation.specs.Forms.{equation_calls, equation_cells, equation_steps}
+use Rattle.lus_translation.specs.Building.{next_cell}
 use Rattle.lus_translation.specs.Making.{calls_made}
-use Rattle.lus_translation.specs.Newest.{cell_seen, newest, tested_memory}
+use Rattle.lus_translation.specs.Newest.{cell_seen, tested_memory}
 use Rattle.lus_translation.proofs.class.make_turn.Goals as goal
 
 -- there is no equation
@@ -15,20 +15,15 @@ past c = slice_get_past c.args.node.now.equations.items c.args.turn.now.equation
 
 pub returns-in-None-clause-steps : goal.returns-in-None-clause-steps
 returns-in-None-clause-steps c =
-    let kept = c.args.built.now.kept in
+    let cells = c.args.built.now.cells.items in
     let ss = steps_of c.args.built.now.steps.items in
     let number = item 0 c.args.numbers.now c.args.turn.now.equation in
-    sym (ap (λ o. ss ++ equation_steps (program_seen c.args.program.now) (node_of c.args.node.now) (next_cell kept) (next_first kept) number o c.args.turn.now.variables.items) (past c) ∙ append-nil ss)
+    sym (ap (λ o. ss ++ equation_steps (program_seen c.args.program.now) (node_of c.args.node.now) (next_cell cells) c.args.firsts.now number o c.args.turn.now.variables.items) (past c) ∙ append-nil ss)
 
 pub returns-in-None-clause-cells : goal.returns-in-None-clause-cells
 returns-in-None-clause-cells c =
-    let ms = map cell_seen c.args.built.now.kept.cells.items in
+    let ms = map cell_seen c.args.built.now.cells.items in
     sym (ap (λ o. ms ++ map tested_memory (equation_cells (node_of c.args.node.now) o c.args.turn.now.variables.items)) (past c) ∙ append-nil ms)
-
-pub returns-in-None-clause-firsts : goal.returns-in-None-clause-firsts
-returns-in-None-clause-firsts c =
-    let ks = c.args.built.now.kept.firsts.items in
-    sym (ap (λ o. ks ++ map newest (equation_firsts (node_of c.args.node.now) o c.args.turn.now.variables.items)) (past c) ∙ append-nil ks)
 
 pub returns-in-None-clause-made : goal.returns-in-None-clause-made
 returns-in-None-clause-made c =

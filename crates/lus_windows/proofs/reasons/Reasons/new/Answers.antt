@@ -11,7 +11,6 @@ returns c =
     let line = c.args.line in
     λ names.
     record {
-      followed = c.in_ok-new.ensures;
-      named = c.in_ok-from_str.ensures.ok;
+      explains = c.in_ok-new.ensures;
       tells = subst (λ t. Tells p f names c.args.instance.now line [] line t) (sym c.new-2.ensures.bytes) begins;
     }

@@ -8,4 +8,4 @@ pub returns : goal.returns
 returns c =
     let old = c.args.self.now in
     let new : Reasons = record old { line = c.saturating_add-self.result } in
-    λ p f names instance first h k. passed p f names instance first h old new refl refl refl c.saturating_add-self.ensures k
+    λ p f names instance first h k. passed p f names instance first h old new refl refl c.saturating_add-self.ensures k

@@ -1,6 +1,0 @@
--- Each part is behind those before it.
-use Rattle.std.proofs.Common.{append_assoc, rules}
-use Rattle.lus_editing.proofs.warned.push_warned.Goals as goal
-
-pub returns : goal.returns
-returns c = search (rules, append_assoc)

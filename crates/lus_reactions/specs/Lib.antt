@@ -1,2 +1,0 @@
-pub mod Reactions
-pub use Rattle.lus_play.specs as PlaySpecs

@@ -1,4 +1,0 @@
-pub mod JoinLaws
-pub mod RecoveryLaws
-pub mod ResumeLaws
-pub mod WriteLaws

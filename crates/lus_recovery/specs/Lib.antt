@@ -1,3 +1,0 @@
-pub mod Journals
-pub mod Recoveries
-pub use Rattle.lus_play.specs as PlaySpecs

@@ -1,0 +1,3 @@
+pub mod DriveLaws
+pub mod JoinLaws
+pub mod RecoveryLaws

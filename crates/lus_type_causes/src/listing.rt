@@ -1,0 +1,258 @@
+//! Notes that list what there is by its names, and conditions among the operands of sums.
+
+use crate::given::Given;
+use crate::repair::{Repair, push_names, variables_of};
+use crate::said::Said;
+use lus_faults::{Edit, Finding, bytes_at, extent_of, slice_of, start_of, variable_named};
+use lus_syntax::{Expr, Group, Infix, Name, Node, Part, Prefix, TypeName};
+use std::alloc::AllocError;
+
+/// What a note lists: the inputs that arguments of a call are for; variables for the results of a call; or the constructors of a type, one
+/// of which is written, or compared with a value by a sign.
+#[derive(Clone, Copy)]
+pub enum Listed<'t> {
+    Inputs(&'t Node, &'t [Part]),
+    Results(&'t Node, &'t Expr),
+    Constructors(&'t str, &'t [Name], Option<(&'t Expr, &'static str)>),
+}
+
+/// The note on a call with another count of arguments: which input each is for.
+fn note_on_inputs(given: Given<'_>, node: &Node, parts: &[Part]) -> Result<String, AllocError> {
+    let owner = node.name.text.as_str();
+    let names = variables_of(given.alloc, &node.inputs)?;
+    if names.is_empty() {
+        return format!(in given.alloc; "`{owner}` has no inputs: a call is `{owner}()`.");
+    }
+    let word = if names.len() == 1 { "input" } else { "inputs" };
+    let mut note = format!(in given.alloc; "`{owner}` has the {word} ")?;
+    push_names(&mut note, &names)?;
+    for (place, (name, part)) in names.iter().zip(parts).enumerate() {
+        let front = if place == 0 {
+            ", in this order. Here "
+        } else {
+            ", "
+        };
+        let text = slice_of(given.source, extent_of(given.source, &part.value));
+        write!(note, "{front}`{name}` is `{text}`")?;
+    }
+    note.push('.')?;
+    Ok(note)
+}
+
+/// Appends a name that no variable of the node has: that of an output, or else with the name of its node before it.
+fn push_free(
+    given: Given<'_>,
+    text: &mut String,
+    owner: &str,
+    output: &str,
+) -> Result<(), AllocError> {
+    let is_taken = match given.node {
+        Some(node) => variable_named(node, output).is_some(),
+        None => false,
+    };
+    if is_taken {
+        write!(text, "{owner}_")?;
+    }
+    text.push_str(output)
+}
+
+/// Appends locals for the outputs of a node, as they are declared.
+fn push_locals(
+    given: Given<'_>,
+    text: &mut String,
+    owner: &str,
+    outputs: &[Group],
+) -> Result<(), AllocError> {
+    for (place, group) in outputs.iter().enumerate() {
+        if place > 0 {
+            text.push_str(" ")?;
+        }
+        for (number, name) in group.names.iter().enumerate() {
+            if number > 0 {
+                text.push_str(", ")?;
+            }
+            push_free(given, text, owner, &name.text)?;
+        }
+        let of = match &group.type_name {
+            TypeName::Bool(_) => "bool",
+            TypeName::Int(_) => "int",
+            TypeName::Declared(name) => name.text.as_str(),
+        };
+        write!(text, ": {of};")?;
+    }
+    Ok(())
+}
+
+/// The note on a call of several results in an expression: how each gets a variable.
+fn note_on_results(given: Given<'_>, node: &Node, call: &Expr) -> Result<String, AllocError> {
+    let owner = node.name.text.as_str();
+    let text = slice_of(given.source, extent_of(given.source, call));
+    let mut note = String::from_str(
+        given.alloc,
+        "A call with several results is alone on the right of an equation. Declare `var ",
+    )?;
+    push_locals(given, &mut note, owner, &node.outputs)?;
+    note.push_str("`, write `(")?;
+    for (place, name) in variables_of(given.alloc, &node.outputs)?.iter().enumerate() {
+        if place > 0 {
+            note.push_str(", ")?;
+        }
+        push_free(given, &mut note, owner, name)?;
+    }
+    write!(note, ") = {text};`, and use here the one that is meant.")?;
+    Ok(note)
+}
+
+/// The note on a value of an enumeration: which ones there are.
+fn note_on_values(
+    given: Given<'_>,
+    of: &str,
+    constructors: &[Name],
+    compared: Option<(&Expr, &str)>,
+) -> Result<String, AllocError> {
+    let mut names = Vec::new(given.alloc);
+    for constructor in constructors {
+        names.push(constructor.text.as_str())?;
+    }
+    let mut note = format!(in given.alloc;
+        "`{of}` is an enumeration, whose values have no numbers: they are "
+    )?;
+    push_names(&mut note, &names)?;
+    let first = names.first().copied().unwrap_or("");
+    match compared {
+        Some((operand, sign)) => {
+            let text = slice_of(given.source, extent_of(given.source, operand));
+            write!(
+                note,
+                ". Compare with one of them, as in `{text} {sign} {first}`."
+            )?;
+        }
+        None => write!(note, ". Write one of them.")?,
+    }
+    Ok(note)
+}
+
+/// The note that lists something.
+pub fn note_on_listed(given: Given<'_>, listed: Listed<'_>) -> Result<String, AllocError> {
+    match listed {
+        Listed::Inputs(node, parts) => note_on_inputs(given, node, parts),
+        Listed::Results(node, call) => note_on_results(given, node, call),
+        Listed::Constructors(of, constructors, compared) => {
+            note_on_values(given, of, constructors, compared)
+        }
+    }
+}
+
+/// Whether an operator takes numbers and gives one.
+fn reckons(sign: &str) -> bool {
+    matches!(sign, "+" | "-" | "*" | "/" | "div" | "mod")
+}
+
+/// An expression without the parentheses round it.
+#[cycle(bared)]
+fn bare(expr: &Expr) -> &Expr {
+    match expr {
+        Expr::Parentheses(_, inner) => bare(inner),
+        _ => expr,
+    }
+}
+
+/// Whether an expression is plainly a condition: a variable of type `bool`, or what is compared.
+fn is_condition(given: Given<'_>, expr: &Expr) -> bool {
+    match bare(expr) {
+        Expr::Name(name) => match given.node {
+            Some(node) => match variable_named(node, &name.text) {
+                Some(variable) => matches!(variable.group.type_name, TypeName::Bool(_)),
+                None => false,
+            },
+            None => false,
+        },
+        Expr::Binary(Infix::Compute(op), _, _) => !reckons(op.sign()),
+        Expr::Unary(Prefix::Not, _, _) => true,
+        _ => false,
+    }
+}
+
+/// Adds an operand of a sum that is a condition, or the conditions in it.
+#[cycle(counting)]
+fn push_operand<'t>(
+    given: Given<'t>,
+    found: &mut Vec<&'t Expr>,
+    expr: &'t Expr,
+) -> Result<(), AllocError> {
+    if is_condition(given, expr) {
+        found.push(expr)?;
+        return Ok(());
+    }
+    push_conditions(given, found, expr)
+}
+
+/// Adds the conditions among the operands of the sums and products of an expression.
+#[cycle(counting)]
+fn push_conditions<'t>(
+    given: Given<'t>,
+    found: &mut Vec<&'t Expr>,
+    expr: &'t Expr,
+) -> Result<(), AllocError> {
+    match expr {
+        Expr::Binary(Infix::Compute(op), left, right) if reckons(op.sign()) => {
+            push_operand(given, found, left)?;
+            push_operand(given, found, right)
+        }
+        Expr::Binary(Infix::Arrow | Infix::Fby, left, right) | Expr::If(_, _, left, right) => {
+            push_conditions(given, found, left)?;
+            push_conditions(given, found, right)
+        }
+        Expr::Parentheses(_, inner) => push_conditions(given, found, inner),
+        _ => Ok(()),
+    }
+}
+
+/// The conditions among the operands of the sums and products of a right side, in the order of the text.
+fn conditions_in<'t>(given: Given<'t>, right: &'t Expr) -> Result<Vec<&'t Expr>, AllocError> {
+    let mut found = Vec::new(given.alloc);
+    push_conditions(given, &mut found, right)?;
+    Ok(found)
+}
+
+/// The change by which each condition among the operands of sums and products becomes a number.
+pub fn counting(given: Given<'_>, right: &Expr) -> Result<Option<Edit>, AllocError> {
+    let conditions = conditions_in(given, right)?;
+    let Some(first) = conditions.first() else {
+        return Ok(None);
+    };
+    let byte = start_of(first).byte;
+    let mut text = String::new(given.alloc);
+    let mut end = byte;
+    for condition in &conditions {
+        let span = extent_of(given.source, condition);
+        let inner = slice_of(given.source, extent_of(given.source, bare(condition)));
+        text.push_str(bytes_at(given.source, end, span.start.byte).unwrap_or(""))?;
+        write!(text, "(if {inner} then 1 else 0)")?;
+        end = span.end().byte;
+    }
+    Ok(Some(Edit {
+        byte,
+        length: end.saturating_sub(byte),
+        text,
+    }))
+}
+
+/// Adds the conditions that a change makes numbers of, but for the one that is told.
+pub fn push_further(
+    given: Given<'_>,
+    said: &Said<'_>,
+    finding: &mut Finding,
+) -> Result<(), AllocError> {
+    let (Some(Repair::Numbers(right)), Some((told, _))) = (said.repair, said.first) else {
+        return Ok(());
+    };
+    for condition in &conditions_in(given, right)? {
+        let span = extent_of(given.source, condition);
+        if span.start.byte != start_of(told).byte {
+            let label = String::from_str(given.alloc, "this has type `bool` too")?;
+            finding.relate(span, label)?;
+        }
+    }
+    Ok(())
+}
