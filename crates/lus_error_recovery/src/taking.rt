@@ -1,9 +1,11 @@
 //! How faults are taken out of what is left of a source, and which only follow from others.
 
-use crate::parts::{count_before, is_among};
-use crate::passes::is_of_grammar;
+use crate::commenting::comment_made;
+use crate::parts::{count_before, is_among, names_of};
+use crate::passes::{in_memory, is_later, is_of_grammar, refused_at};
 use crate::rest::Rest;
 use lus_faults::{Edit, Finding, slice_of};
+use lus_grammar::parse;
 use lus_syntax::{Refusal, RefusalNumber};
 use std::alloc::{AllocError, Global};
 
@@ -37,7 +39,7 @@ impl Fault<'_> {
             return false;
         }
         if let Some(line) = other.mended {
-            return self.line == line;
+            return self.line == line || self.line == other.line;
         }
         if !is_of_grammar(self.number) {
             return self.declaration == other.declaration && !other.is_in_equation;
@@ -147,14 +149,17 @@ impl<'s> Rest<'s> {
             return Ok(false);
         };
         let bytes = declaration.bytes_of(statement);
+        let front = declaration.end_before(statement.0).unwrap_or(bytes.0);
         declaration.is_filled = true;
         declaration.take(alloc, statement)?;
         self.pass_over_unread(alloc, place, bytes)?;
+        self.written
+            .retain(|put| put.byte < front || bytes.1 < put.byte);
         Ok(true)
     }
 
     /// Has what is no token between two bytes of a declaration be passed over.
-    fn pass_over_unread(
+    pub(crate) fn pass_over_unread(
         &mut self,
         alloc: Global,
         place: usize,
@@ -188,8 +193,7 @@ impl<'s> Rest<'s> {
         declaration.take(alloc, (0, all))
     }
 
-    /// Makes a change that mends a fault of grammar in the tokens of its declaration, if the fault is in a statement, is a type's name, or
-    /// the declaration lacks its `tel`: on which line it did.
+    /// Makes a change that mends a fault of grammar in the tokens of its declaration, if they are read further then: on which line it did.
     fn mend(
         &mut self,
         alloc: Global,
@@ -200,27 +204,40 @@ impl<'s> Rest<'s> {
             return Ok(None);
         };
         let line = declaration.line_before(edit.byte);
-        let at = declaration.place_at(fault.line, fault.column);
-        let is_in_statement = declaration.statement_at(at).is_some();
-        let is_known = if fault.number != RefusalNumber::Syntax {
-            fault.number == RefusalNumber::Unsupported && !is_in_statement
-        } else if fault.here == fault.declaration {
-            is_in_statement
-        } else {
-            edit.text.trim() == "tel"
+        let Some(found) =
+            declaration.changed(alloc, self.source, edit, fault.line, fault.column)?
+        else {
+            return Ok(None);
         };
-        if !is_known || !declaration.change(alloc, edit, fault.line, fault.column)? {
+        let tokens = declaration.tokens_with(alloc, edit, &found.tokens)?;
+        let next = in_memory(parse(alloc, &tokens))?.err();
+        if !is_later(&next, &refused_at(fault.number, fault.line, fault.column)) {
             return Ok(None);
         }
-        if fault.number == RefusalNumber::Unsupported {
-            declaration.is_rewritten = true;
-            let text = edit.text.clone()?;
-            let (byte, length) = (edit.byte, edit.length);
-            self.written.push(Edit { byte, length, text })?;
+        declaration.tokens = tokens;
+        declaration.taken.extend_from_slice(&found.gone)?;
+        for put in found.put {
+            self.written.push(put)?;
         }
         let end = edit.byte.saturating_add(edit.length);
         self.pass_over_unread(alloc, fault.declaration, (edit.byte, end))?;
+        self.names = names_of(alloc, &self.declarations)?;
         Ok(Some(line))
+    }
+
+    /// Whether a change is of the statement that a fault is in, and of none before it.
+    fn is_within(&self, fault: &Fault<'s>, edit: &Edit) -> bool {
+        let Some(declaration) = self.declarations.get(fault.declaration) else {
+            return false;
+        };
+        let at = declaration.place_at(fault.line, fault.column);
+        match declaration.statement_at(at) {
+            Some((first, _)) => match declaration.end_before(first) {
+                Some(end) => end <= edit.byte,
+                None => true,
+            },
+            None => false,
+        }
     }
 
     /// Takes out what a fault is in: its statement, or of a node that a variable has no equation, else the declaration; nothing more than what
@@ -242,7 +259,6 @@ impl<'s> Rest<'s> {
             return Ok(());
         }
         match self.declarations.get_mut(fault.declaration) {
-            Some(found) if fault.mended.is_some() => found.pass_over(),
             Some(found) if found.is_node && !found.is_filled && !is_of_grammar(fault.number) => {
                 found.is_filled = true;
                 Ok(())
@@ -264,12 +280,19 @@ impl<'s> Rest<'s> {
             && let Some(edit) = &finding.edit
             && is_of_grammar(fault.number)
         {
+            if let Some((from, to)) = comment_made(self.source, edit) {
+                fault.mended = Some(fault.line);
+                self.found.push(fault)?;
+                return self.take_comment(alloc, from, to);
+            }
+            let is_within = self.is_within(&fault, edit);
             fault.mended = self.mend(alloc, &fault, edit)?;
+            if fault.mended.is_some() && !is_within {
+                self.found.push(fault)?;
+                return Ok(());
+            }
         }
         self.found.push(fault)?;
-        if fault.mended.is_some() && fault.number == RefusalNumber::Unsupported {
-            return Ok(());
-        }
         if let Some(finding) = finding
             && !is_of_grammar(fault.number)
         {
