@@ -4,7 +4,7 @@ use crate::commenting::comment_made;
 use crate::parts::{count_before, is_among, names_of};
 use crate::passes::{in_memory, is_later, is_of_grammar, refused_at};
 use crate::rest::Rest;
-use lus_faults::{Edit, Finding, slice_of};
+use lus_faults::{Edit, Finding, bytes_at, offset_of, slice_of};
 use lus_grammar::parse;
 use lus_syntax::{Refusal, RefusalNumber};
 use std::alloc::{AllocError, Global};
@@ -39,7 +39,8 @@ impl Fault<'_> {
             return false;
         }
         if let Some(line) = other.mended {
-            return self.line == line || self.line == other.line;
+            let is_there = self.line == other.line && self.declaration == other.declaration;
+            return self.line == line || is_there;
         }
         if !is_of_grammar(self.number) {
             return self.declaration == other.declaration && !other.is_in_equation;
@@ -95,8 +96,25 @@ impl<'s> Rest<'s> {
         }
     }
 
+    /// Whether a fault of grammar is on a line of its declaration that has what is no token.
+    fn is_among_unread(&self, fault: &Fault<'_>) -> bool {
+        fault.number == RefusalNumber::Syntax
+            && self.found.iter().any(|other| {
+                other.number == RefusalNumber::Lexical
+                    && other.line == fault.line
+                    && other.declaration == fault.declaration
+            })
+    }
+
+    /// Whether a comment as other languages write it begins at a fault.
+    fn begins_comment(&self, fault: &Fault<'_>) -> bool {
+        let byte = offset_of(self.source, fault.line, fault.column);
+        let rest = bytes_at(self.source, byte, self.source.len()).unwrap_or("");
+        rest.starts_with("//") || rest.starts_with("# ") && !rest.starts_with("# (")
+    }
+
     /// Whether a refusal is of a fault that wasn't found before, is of no limit, and follows from none. One of grammar that may follow from
-    /// another is of its own where it is in an equation.
+    /// another is of its own where it is in an equation, or begins a comment.
     pub(crate) fn is_new(&self, refusal: &Refusal) -> bool {
         let fault = self.fault_of(refusal);
         if self
@@ -108,7 +126,8 @@ impl<'s> Rest<'s> {
             return false;
         }
         if self.found.iter().any(|other| fault.follows(other)) {
-            return fault.is_in_equation && is_of_grammar(fault.number);
+            let is_own = fault.is_in_equation && !self.is_among_unread(&fault);
+            return is_of_grammar(fault.number) && (is_own || self.begins_comment(&fault));
         }
         fault.number != RefusalNumber::Name || !self.lost.contains(&fault.word)
     }
@@ -259,6 +278,7 @@ impl<'s> Rest<'s> {
             return Ok(());
         }
         match self.declarations.get_mut(fault.declaration) {
+            Some(_) if fault.mended.is_some() => Ok(()),
             Some(found) if found.is_node && !found.is_filled && !is_of_grammar(fault.number) => {
                 found.is_filled = true;
                 Ok(())
@@ -267,8 +287,55 @@ impl<'s> Rest<'s> {
         }
     }
 
-    /// Takes a refusal's fault out, where it comes from if a finding says so: a change of a declaration is made, and of a value that may be
-    /// nil the last place is taken on the way to what has no value.
+    /// Takes out what a change of a fault of grammar is about, if that is no part of its statement: a comment, or what is mended then. Whether
+    /// it did; else whether the change mends the fault is kept with it.
+    fn take_spelled(
+        &mut self,
+        alloc: Global,
+        fault: &mut Fault<'s>,
+        edit: &Edit,
+    ) -> Result<bool, AllocError> {
+        if let Some((from, to)) = comment_made(self.source, edit) {
+            fault.mended = Some(fault.line);
+            self.found.push(*fault)?;
+            self.take_comment(alloc, from, to)?;
+            return Ok(true);
+        }
+        let is_within = self.is_within(fault, edit);
+        fault.mended = self.mend(alloc, fault, edit)?;
+        if fault.mended.is_none() || is_within {
+            return Ok(false);
+        }
+        self.found.push(*fault)?;
+        Ok(true)
+    }
+
+    /// Takes out what a finding of a fault of meaning says, where that isn't at the fault: a change of a declaration is made, and of a value
+    /// that may be nil the last place is taken on the way to what has no value. Whether it did.
+    fn take_meant(
+        &mut self,
+        alloc: Global,
+        fault: &Fault<'s>,
+        finding: &Finding,
+    ) -> Result<bool, AllocError> {
+        if let Some(edit) = &finding.edit
+            && self.is_declared(fault, edit)
+        {
+            let text = edit.text.clone()?;
+            let (byte, length) = (edit.byte, edit.length);
+            self.edits.push(Edit { byte, length, text })?;
+            return Ok(true);
+        }
+        match finding.related.last() {
+            Some(last) if fault.number == RefusalNumber::Nil => {
+                let start = last.span.start;
+                self.take_statement(alloc, fault.declaration, start.line, start.column)
+            }
+            _ => Ok(false),
+        }
+    }
+
+    /// Takes a refusal's fault out, where it comes from if a finding says so.
     pub fn take(
         &mut self,
         alloc: Global,
@@ -276,42 +343,23 @@ impl<'s> Rest<'s> {
         finding: Option<&Finding>,
     ) -> Result<(), AllocError> {
         let mut fault = self.fault_of(refusal);
+        let is_spelled = is_of_grammar(fault.number);
         if let Some(finding) = finding
             && let Some(edit) = &finding.edit
-            && is_of_grammar(fault.number)
+            && is_spelled
+            && self.take_spelled(alloc, &mut fault, edit)?
         {
-            if let Some((from, to)) = comment_made(self.source, edit) {
-                fault.mended = Some(fault.line);
-                self.found.push(fault)?;
-                return self.take_comment(alloc, from, to);
-            }
-            let is_within = self.is_within(&fault, edit);
-            fault.mended = self.mend(alloc, &fault, edit)?;
-            if fault.mended.is_some() && !is_within {
-                self.found.push(fault)?;
-                return Ok(());
-            }
+            return Ok(());
+        }
+        if finding.is_none() && is_spelled && fault.number != RefusalNumber::Syntax {
+            fault.mended = Some(fault.line);
         }
         self.found.push(fault)?;
         if let Some(finding) = finding
-            && !is_of_grammar(fault.number)
+            && !is_spelled
+            && self.take_meant(alloc, &fault, finding)?
         {
-            if let Some(edit) = &finding.edit
-                && self.is_declared(&fault, edit)
-            {
-                let text = edit.text.clone()?;
-                let (byte, length) = (edit.byte, edit.length);
-                self.edits.push(Edit { byte, length, text })?;
-                return Ok(());
-            }
-            if let Some(last) = finding.related.last()
-                && fault.number == RefusalNumber::Nil
-            {
-                let start = last.span.start;
-                if self.take_statement(alloc, fault.declaration, start.line, start.column)? {
-                    return Ok(());
-                }
-            }
+            return Ok(());
         }
         self.take_place(alloc, &fault)
     }

@@ -190,13 +190,17 @@ fn further_at(fault: &Fault<'_>, at: usize) -> Option<(usize, bool)> {
     Some((next.saturating_add(usize::from(is_colon)), false))
 }
 
+/// Whether a statement with `if` begins at the fault.
+fn begins(fault: &Fault<'_>) -> bool {
+    is_any(fault.found(), &["if"]) && is_any(fault.before(1), &[";", "let", "}"])
+}
+
 /// The statement with `if` that begins at the fault, if all its branches assign.
 pub fn statement_at(
     alloc: Global,
     fault: &Fault<'_>,
 ) -> Result<Option<Statement>, AllocError> {
-    let is_first = is_any(fault.before(1), &[";", "let", "}"]);
-    if !is_first || !is_any(fault.found(), &["if"]) {
+    if !begins(fault) {
         return Ok(None);
     }
     let (mut conditions, mut assigned) = (Vec::new(alloc), Vec::new(alloc));

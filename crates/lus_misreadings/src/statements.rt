@@ -251,7 +251,7 @@ fn push_front(
     for place in 0..fault.place {
         if let Some((value, begin)) = default_of(fault, fault.text(place))
             && begin == place
-            && names.contains(&fault.text(place))
+            && is_any(fault.text(place), names)
             && let Some((from, _)) = fault.bytes_of((place, place.saturating_add(1)))
         {
             if first == start {
@@ -292,8 +292,20 @@ fn written(
 }
 
 /// The note on a statement that assigns names.
-fn note_on(alloc: Global, names: &[&str], is_held: bool) -> Result<String, AllocError> {
-    let mut note = String::from_str(alloc, "An `if` is an expression: one equation gives ")?;
+fn note_on(
+    alloc: Global,
+    names: &[&str],
+    is_switch: bool,
+    is_held: bool,
+) -> Result<String, AllocError> {
+    let mut note = String::from_str(
+        alloc,
+        if is_switch {
+            "Choose by `if`, which is an expression: one equation gives "
+        } else {
+            "An `if` is an expression: one equation gives "
+        },
+    )?;
     for (number, name) in names.iter().enumerate() {
         let front = if number == 0 { "" } else { ", one " };
         write!(note, "{front}`{name}`")?;
@@ -301,7 +313,7 @@ fn note_on(alloc: Global, names: &[&str], is_held: bool) -> Result<String, Alloc
     note.push_str(" a value at every instant.")?;
     if is_held {
         note.push_str(
-            " Where nothing is assigned, perhaps the value of the instant before is meant: before the first one it is the one that stands before `->`.",
+            " Where nothing is assigned, perhaps the last value is meant: that is `pre`, with a value for the first instant before `->`, which you choose.",
         )?;
     }
     Ok(note)
@@ -312,7 +324,7 @@ fn is_doubled(fault: &Fault<'_>, statement: &Statement, names: &[&str]) -> bool 
     for place in statement.end..fault.tokens.len() {
         let is_left = is_any(fault.text(place.saturating_sub(1)), &[";", "let", "then", "{", "else"])
             && is_any(fault.text(place.saturating_add(1)), &["=", ":", "+", "-"]);
-        if is_left && names.contains(&fault.text(place)) {
+        if is_left && is_any(fault.text(place), names) {
             return true;
         }
     }
@@ -345,7 +357,7 @@ pub fn stated(alloc: Global, fault: &Fault<'_>) -> Result<Option<Finding>, Alloc
         )?;
         return Ok(Some(told(alloc, fault, wrong, sentence, note.as_str(), None)?));
     }
-    let note = note_on(alloc, &names, is_held)?;
+    let note = note_on(alloc, &names, statement.subject.is_some(), is_held)?;
     let edit = written(alloc, fault, &statement, &names, text.as_str())?;
     Ok(Some(told(alloc, fault, wrong, sentence, note.as_str(), edit)?))
 }
