@@ -68,8 +68,12 @@ fn begins(sign: &str, before: &str, behind: &str) -> bool {
     if is_any(sign, &["//", "///"]) {
         return !divides(before, behind);
     }
+    // (`T#30s` is a time of another language)
+    let first = behind.as_bytes().first().copied().unwrap_or(b' ');
     let word = behind.split(" ").next().unwrap_or("");
-    !behind.trim_start().starts_with("(") && !is_any(word, &["define", "include"])
+    !first.is_ascii_digit()
+        && !behind.trim_start().starts_with("(")
+        && !is_any(word, &["define", "include"])
 }
 
 /// Whether a sign between statements begins a comment between texts: a word stands behind it.
