@@ -1,20 +1,19 @@
 //! Declarations and statements, by their tokens.
 
+use crate::aligning::{Aligned, align};
 use crate::parts::count_before;
 use crate::passes::in_memory;
-use crate::reading::tokens_from;
-use lus_faults::Edit;
-use lus_syntax::{Place, Span, Symbol, Token, TokenKind, Word};
+use lus_faults::{Edit, bytes_at};
+use lus_syntax::{Place, Span, Symbol, Token, TokenKind, Word, lex};
 use std::alloc::{AllocError, Global};
 
 /// A node, or a group of types or constants: where it begins, what is left of its tokens, and where those stood that were taken out.
-/// Of a node whether variables without an equation have values. Whether words of its head are others than those of the source.
+/// Of a node whether variables without an equation have values.
 #[derive(Drop)]
 pub(crate) struct Declaration<'s> {
     pub start: Place,
     pub is_node: bool,
     pub is_filled: bool,
-    pub is_rewritten: bool,
     pub tokens: Vec<Token<'s>>,
     pub taken: Vec<Span>,
 }
@@ -42,7 +41,6 @@ pub(crate) fn declarations_of<'s>(
                 start: token.span.start,
                 is_node: matches!(token.kind, TokenKind::Keyword(Word::Node | Word::Function)),
                 is_filled: false,
-                is_rewritten: false,
                 tokens: Vec::new(alloc),
                 taken: Vec::new(alloc),
             })?;
@@ -61,6 +59,40 @@ fn braces_behind(braces: usize, token: &Token<'_>) -> usize {
         TokenKind::Punctuation(Symbol::CloseBrace) => braces.saturating_sub(1),
         _ => braces,
     }
+}
+
+/// A kind of token that borrows from the source. Of a name there is none where the source doesn't have it.
+fn own<'s>(source: &'s str, kind: TokenKind<'_>) -> Option<TokenKind<'s>> {
+    match kind {
+        TokenKind::Identifier(name) => {
+            let from = source.find(name)?;
+            let found = bytes_at(source, from, from.saturating_add(name.len()))?;
+            Some(TokenKind::Identifier(found))
+        }
+        TokenKind::Number(number) => Some(TokenKind::Number(number)),
+        TokenKind::Punctuation(symbol) => Some(TokenKind::Punctuation(symbol)),
+        TokenKind::Keyword(word) => Some(TokenKind::Keyword(word)),
+    }
+}
+
+/// The tokens of a text that borrow from the source; nothing where it has none, or a name that the source doesn't have.
+fn own_tokens<'s>(
+    alloc: Global,
+    source: &'s str,
+    text: &str,
+) -> Result<Option<Vec<Token<'s>>>, AllocError> {
+    let Ok(made) = in_memory(lex(alloc, text))? else {
+        return Ok(None);
+    };
+    let mut tokens = Vec::new(alloc);
+    for token in &made {
+        let Some(kind) = own(source, token.kind) else {
+            return Ok(None);
+        };
+        let span = token.span;
+        tokens.push(Token { kind, span })?;
+    }
+    Ok(Some(tokens))
 }
 
 impl<'s> Declaration<'s> {
@@ -218,58 +250,56 @@ impl<'s> Declaration<'s> {
         Ok(names)
     }
 
-    /// A kind of token that borrows from the source. Of a name there is none where the declaration doesn't have it.
-    fn own(&self, kind: TokenKind<'_>) -> Option<TokenKind<'s>> {
-        match kind {
-            TokenKind::Identifier(name) => {
-                for token in &self.tokens {
-                    match token.kind {
-                        TokenKind::Identifier(found) if found == name => return Some(token.kind),
-                        _ => {}
-                    }
-                }
-                None
-            }
-            TokenKind::Number(number) => Some(TokenKind::Number(number)),
-            TokenKind::Punctuation(symbol) => Some(TokenKind::Punctuation(symbol)),
-            TokenKind::Keyword(word) => Some(TokenKind::Keyword(word)),
-        }
-    }
-
-    /// Makes a change of the source in the tokens, unless it puts in a name that they don't have: whether it did. What it puts in takes no room
-    /// in the source, and stands where the first token did that begins at the change or behind it, or else at this line and column.
-    pub fn change(
-        &mut self,
+    /// What a change of the source makes of the tokens that it is of, unless it puts in a name that the source doesn't have. What it puts in
+    /// stands where the next token does, or else at this line and column.
+    pub fn changed(
+        &self,
         alloc: Global,
+        source: &'s str,
         edit: &Edit,
         line: usize,
         column: usize,
-    ) -> Result<bool, AllocError> {
-        let from = count_before(&self.tokens, edit.byte);
-        let to = count_before(&self.tokens, edit.byte.saturating_add(edit.length));
+    ) -> Result<Option<Aligned<'s>>, AllocError> {
+        let (from, to) = self.range_of(edit);
+        let Some(made) = own_tokens(alloc, source, &edit.text)? else {
+            return Ok(None);
+        };
         let byte = edit.byte;
-        let start = match self.tokens.get(from) {
-            Some(first) => first.span.start,
+        let behind = match self.tokens.get(to) {
+            Some(next) => next.span.start,
             None => Place { byte, line, column },
         };
-        let Ok(made) = in_memory(tokens_from(alloc, &edit.text, start))? else {
-            return Ok(false);
-        };
+        let end = self.end_before(from).unwrap_or(byte);
+        let old = self.tokens.get(from..to).unwrap_or(&[]);
+        Ok(Some(align(alloc, old, &made, &edit.text, end, behind)?))
+    }
+
+    /// The tokens that a change of the source is of.
+    fn range_of(&self, edit: &Edit) -> Range {
+        let from = count_before(&self.tokens, edit.byte);
+        let to = count_before(&self.tokens, edit.byte.saturating_add(edit.length));
+        (from, to)
+    }
+
+    /// The byte behind the token before a place.
+    pub fn end_before(&self, place: usize) -> Option<usize> {
+        let before = self.tokens.get(place.checked_sub(1)?)?;
+        Some(before.span.end().byte)
+    }
+
+    /// The tokens with some in the place of those that a change is of.
+    pub fn tokens_with(
+        &self,
+        alloc: Global,
+        edit: &Edit,
+        others: &[Token<'s>],
+    ) -> Result<Vec<Token<'s>>, AllocError> {
+        let (from, to) = self.range_of(edit);
         let mut tokens = Vec::new(alloc);
         tokens.extend_from_slice(self.tokens.get(..from).unwrap_or(&[]))?;
-        for token in &made {
-            let Some(kind) = self.own(token.kind) else {
-                return Ok(false);
-            };
-            let span = Span { start, length: 0 };
-            tokens.push(Token { kind, span })?;
-        }
+        tokens.extend_from_slice(others)?;
         tokens.extend_from_slice(self.tokens.get(to..).unwrap_or(&[]))?;
-        for token in self.tokens.get(from..to).unwrap_or(&[]) {
-            self.taken.push(token.span)?;
-        }
-        self.tokens = tokens;
-        Ok(true)
+        Ok(tokens)
     }
 
     /// The bytes of some tokens, from the first one's first up to that behind the last one's last.
@@ -279,14 +309,6 @@ impl<'s> Declaration<'s> {
             (Some(first), Some(last)) => (first.span.start.byte, last.span.end().byte),
             _ => (0, 0),
         }
-    }
-
-    /// Has it be passed over where the source is read again, since its tokens aren't those of the source any more.
-    pub fn pass_over(&mut self) -> Result<(), AllocError> {
-        for token in &self.tokens {
-            self.taken.push(token.span)?;
-        }
-        Ok(())
     }
 
     /// Takes some tokens out.

@@ -2,6 +2,8 @@
 //! left stands at its place, and a variable that loses its equation has a value of its type.
 #![tactic(auto)]
 
+mod aligning;
+mod commenting;
 mod declarations;
 mod filling;
 mod parts;

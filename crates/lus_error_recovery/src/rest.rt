@@ -7,7 +7,7 @@ use crate::passes::{check_tree, in_memory, is_later, is_of_grammar, refused_at};
 use crate::reading::{Reading, Unread, reading_of};
 use crate::taking::Fault;
 use crate::window::{Window, window_of};
-use lus_faults::Edit;
+use lus_faults::{Edit, offset_of};
 use lus_grammar::parse;
 use lus_syntax::{Node, Place, Refusal, RefusalNumber, Tree};
 use std::alloc::{AllocError, Global};
@@ -24,7 +24,7 @@ pub(crate) const MOST_SMALL: usize = 16384;
 /// The most faults that are taken out.
 const MOST_TURNS: usize = 400;
 
-/// What is left of a source: its declarations, and what is no token; the changes that were made, and those that were made to its words,
+/// What is left of a source: its declarations, and what is no token; the changes that were made, what those of its grammar put in,
 /// the names of what was taken out, and the faults that were found. Declarations are looked through in steps: each by its grammar, then each by its meaning, then all together.
 #[derive(Drop)]
 pub struct Rest<'s> {
@@ -57,6 +57,11 @@ impl<'s> Rest<'s> {
             step: 0,
             left: LEAST_TOKENS.max(tokens.len().saturating_mul(MOST_CHECKS)),
         })
+    }
+
+    /// Has the grammar of declarations be read again from a place on.
+    pub(crate) fn go_back(&mut self, place: usize) {
+        self.step = self.step.min(place);
     }
 
     /// The place of the last declaration that doesn't begin behind a line and a column.
@@ -258,9 +263,8 @@ impl<'s> Rest<'s> {
                 window.blank(&declaration.taken);
             }
         }
-        for edit in &self.written {
-            window.write(edit);
-        }
+        let line = offset_of(self.source, refusal.line, 1);
+        window.write(alloc, &self.written, start.byte, line)?;
         Ok(Some(window))
     }
 
@@ -276,8 +280,7 @@ impl<'s> Rest<'s> {
         Ok(self.read(alloc, own, beside, None)?.ok())
     }
 
-    /// Whether a change of the source helps against a refusal: the declaration there is accepted then, or refused later. None is tried in a
-    /// declaration whose tokens don't all stand where they do in the source.
+    /// Whether a change of the source helps against a refusal: the declaration there is accepted then, or refused later.
     pub fn helps(
         &mut self,
         alloc: Global,
@@ -285,13 +288,6 @@ impl<'s> Rest<'s> {
         edit: &Edit,
     ) -> Result<bool, AllocError> {
         let own = self.fault_of(refusal).declaration;
-        if self
-            .declarations
-            .get(own)
-            .is_some_and(|found| found.is_rewritten)
-        {
-            return Ok(false);
-        }
         let found = self.check(alloc, own, Beside::Needed, Some(edit))?.err();
         Ok(is_later(&found, refusal))
     }

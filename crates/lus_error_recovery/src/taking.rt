@@ -1,9 +1,11 @@
 //! How faults are taken out of what is left of a source, and which only follow from others.
 
-use crate::parts::{count_before, is_among};
-use crate::passes::is_of_grammar;
+use crate::commenting::comment_made;
+use crate::parts::{count_before, is_among, names_of};
+use crate::passes::{in_memory, is_later, is_of_grammar, refused_at};
 use crate::rest::Rest;
-use lus_faults::{Edit, Finding, slice_of};
+use lus_faults::{Edit, Finding, bytes_at, offset_of, slice_of};
+use lus_grammar::parse;
 use lus_syntax::{Refusal, RefusalNumber};
 use std::alloc::{AllocError, Global};
 
@@ -37,7 +39,8 @@ impl Fault<'_> {
             return false;
         }
         if let Some(line) = other.mended {
-            return self.line == line;
+            let is_there = self.line == other.line && self.declaration == other.declaration;
+            return self.line == line || is_there;
         }
         if !is_of_grammar(self.number) {
             return self.declaration == other.declaration && !other.is_in_equation;
@@ -93,8 +96,25 @@ impl<'s> Rest<'s> {
         }
     }
 
+    /// Whether a fault of grammar is on a line of its declaration that has what is no token.
+    fn is_among_unread(&self, fault: &Fault<'_>) -> bool {
+        fault.number == RefusalNumber::Syntax
+            && self.found.iter().any(|other| {
+                other.number == RefusalNumber::Lexical
+                    && other.line == fault.line
+                    && other.declaration == fault.declaration
+            })
+    }
+
+    /// Whether a comment as other languages write it begins at a fault.
+    fn begins_comment(&self, fault: &Fault<'_>) -> bool {
+        let byte = offset_of(self.source, fault.line, fault.column);
+        let rest = bytes_at(self.source, byte, self.source.len()).unwrap_or("");
+        rest.starts_with("//") || rest.starts_with("# ") && !rest.starts_with("# (")
+    }
+
     /// Whether a refusal is of a fault that wasn't found before, is of no limit, and follows from none. One of grammar that may follow from
-    /// another is of its own where it is in an equation.
+    /// another is of its own where it is in an equation, or begins a comment.
     pub(crate) fn is_new(&self, refusal: &Refusal) -> bool {
         let fault = self.fault_of(refusal);
         if self
@@ -106,7 +126,8 @@ impl<'s> Rest<'s> {
             return false;
         }
         if self.found.iter().any(|other| fault.follows(other)) {
-            return fault.is_in_equation && is_of_grammar(fault.number);
+            let is_own = fault.is_in_equation && !self.is_among_unread(&fault);
+            return is_of_grammar(fault.number) && (is_own || self.begins_comment(&fault));
         }
         fault.number != RefusalNumber::Name || !self.lost.contains(&fault.word)
     }
@@ -147,14 +168,17 @@ impl<'s> Rest<'s> {
             return Ok(false);
         };
         let bytes = declaration.bytes_of(statement);
+        let front = declaration.end_before(statement.0).unwrap_or(bytes.0);
         declaration.is_filled = true;
         declaration.take(alloc, statement)?;
         self.pass_over_unread(alloc, place, bytes)?;
+        self.written
+            .retain(|put| put.byte < front || bytes.1 < put.byte);
         Ok(true)
     }
 
     /// Has what is no token between two bytes of a declaration be passed over.
-    fn pass_over_unread(
+    pub(crate) fn pass_over_unread(
         &mut self,
         alloc: Global,
         place: usize,
@@ -188,8 +212,7 @@ impl<'s> Rest<'s> {
         declaration.take(alloc, (0, all))
     }
 
-    /// Makes a change that mends a fault of grammar in the tokens of its declaration, if the fault is in a statement, is a type's name, or
-    /// the declaration lacks its `tel`: on which line it did.
+    /// Makes a change that mends a fault of grammar in the tokens of its declaration, if they are read further then: on which line it did.
     fn mend(
         &mut self,
         alloc: Global,
@@ -200,27 +223,40 @@ impl<'s> Rest<'s> {
             return Ok(None);
         };
         let line = declaration.line_before(edit.byte);
-        let at = declaration.place_at(fault.line, fault.column);
-        let is_in_statement = declaration.statement_at(at).is_some();
-        let is_known = if fault.number != RefusalNumber::Syntax {
-            fault.number == RefusalNumber::Unsupported && !is_in_statement
-        } else if fault.here == fault.declaration {
-            is_in_statement
-        } else {
-            edit.text.trim() == "tel"
+        let Some(found) =
+            declaration.changed(alloc, self.source, edit, fault.line, fault.column)?
+        else {
+            return Ok(None);
         };
-        if !is_known || !declaration.change(alloc, edit, fault.line, fault.column)? {
+        let tokens = declaration.tokens_with(alloc, edit, &found.tokens)?;
+        let next = in_memory(parse(alloc, &tokens))?.err();
+        if !is_later(&next, &refused_at(fault.number, fault.line, fault.column)) {
             return Ok(None);
         }
-        if fault.number == RefusalNumber::Unsupported {
-            declaration.is_rewritten = true;
-            let text = edit.text.clone()?;
-            let (byte, length) = (edit.byte, edit.length);
-            self.written.push(Edit { byte, length, text })?;
+        declaration.tokens = tokens;
+        declaration.taken.extend_from_slice(&found.gone)?;
+        for put in found.put {
+            self.written.push(put)?;
         }
         let end = edit.byte.saturating_add(edit.length);
         self.pass_over_unread(alloc, fault.declaration, (edit.byte, end))?;
+        self.names = names_of(alloc, &self.declarations)?;
         Ok(Some(line))
+    }
+
+    /// Whether a change is of the statement that a fault is in, and of none before it.
+    fn is_within(&self, fault: &Fault<'s>, edit: &Edit) -> bool {
+        let Some(declaration) = self.declarations.get(fault.declaration) else {
+            return false;
+        };
+        let at = declaration.place_at(fault.line, fault.column);
+        match declaration.statement_at(at) {
+            Some((first, _)) => match declaration.end_before(first) {
+                Some(end) => end <= edit.byte,
+                None => true,
+            },
+            None => false,
+        }
     }
 
     /// Takes out what a fault is in: its statement, or of a node that a variable has no equation, else the declaration; nothing more than what
@@ -242,7 +278,7 @@ impl<'s> Rest<'s> {
             return Ok(());
         }
         match self.declarations.get_mut(fault.declaration) {
-            Some(found) if fault.mended.is_some() => found.pass_over(),
+            Some(_) if fault.mended.is_some() => Ok(()),
             Some(found) if found.is_node && !found.is_filled && !is_of_grammar(fault.number) => {
                 found.is_filled = true;
                 Ok(())
@@ -251,8 +287,55 @@ impl<'s> Rest<'s> {
         }
     }
 
-    /// Takes a refusal's fault out, where it comes from if a finding says so: a change of a declaration is made, and of a value that may be
-    /// nil the last place is taken on the way to what has no value.
+    /// Takes out what a change of a fault of grammar is about, if that is no part of its statement: a comment, or what is mended then. Whether
+    /// it did; else whether the change mends the fault is kept with it.
+    fn take_spelled(
+        &mut self,
+        alloc: Global,
+        fault: &mut Fault<'s>,
+        edit: &Edit,
+    ) -> Result<bool, AllocError> {
+        if let Some((from, to)) = comment_made(self.source, edit) {
+            fault.mended = Some(fault.line);
+            self.found.push(*fault)?;
+            self.take_comment(alloc, from, to)?;
+            return Ok(true);
+        }
+        let is_within = self.is_within(fault, edit);
+        fault.mended = self.mend(alloc, fault, edit)?;
+        if fault.mended.is_none() || is_within {
+            return Ok(false);
+        }
+        self.found.push(*fault)?;
+        Ok(true)
+    }
+
+    /// Takes out what a finding of a fault of meaning says, where that isn't at the fault: a change of a declaration is made, and of a value
+    /// that may be nil the last place is taken on the way to what has no value. Whether it did.
+    fn take_meant(
+        &mut self,
+        alloc: Global,
+        fault: &Fault<'s>,
+        finding: &Finding,
+    ) -> Result<bool, AllocError> {
+        if let Some(edit) = &finding.edit
+            && self.is_declared(fault, edit)
+        {
+            let text = edit.text.clone()?;
+            let (byte, length) = (edit.byte, edit.length);
+            self.edits.push(Edit { byte, length, text })?;
+            return Ok(true);
+        }
+        match finding.related.last() {
+            Some(last) if fault.number == RefusalNumber::Nil => {
+                let start = last.span.start;
+                self.take_statement(alloc, fault.declaration, start.line, start.column)
+            }
+            _ => Ok(false),
+        }
+    }
+
+    /// Takes a refusal's fault out, where it comes from if a finding says so.
     pub fn take(
         &mut self,
         alloc: Global,
@@ -260,35 +343,23 @@ impl<'s> Rest<'s> {
         finding: Option<&Finding>,
     ) -> Result<(), AllocError> {
         let mut fault = self.fault_of(refusal);
+        let is_spelled = is_of_grammar(fault.number);
         if let Some(finding) = finding
             && let Some(edit) = &finding.edit
-            && is_of_grammar(fault.number)
+            && is_spelled
+            && self.take_spelled(alloc, &mut fault, edit)?
         {
-            fault.mended = self.mend(alloc, &fault, edit)?;
-        }
-        self.found.push(fault)?;
-        if fault.mended.is_some() && fault.number == RefusalNumber::Unsupported {
             return Ok(());
         }
+        if finding.is_none() && is_spelled && fault.number != RefusalNumber::Syntax {
+            fault.mended = Some(fault.line);
+        }
+        self.found.push(fault)?;
         if let Some(finding) = finding
-            && !is_of_grammar(fault.number)
+            && !is_spelled
+            && self.take_meant(alloc, &fault, finding)?
         {
-            if let Some(edit) = &finding.edit
-                && self.is_declared(&fault, edit)
-            {
-                let text = edit.text.clone()?;
-                let (byte, length) = (edit.byte, edit.length);
-                self.edits.push(Edit { byte, length, text })?;
-                return Ok(());
-            }
-            if let Some(last) = finding.related.last()
-                && fault.number == RefusalNumber::Nil
-            {
-                let start = last.span.start;
-                if self.take_statement(alloc, fault.declaration, start.line, start.column)? {
-                    return Ok(());
-                }
-            }
+            return Ok(());
         }
         self.take_place(alloc, &fault)
     }

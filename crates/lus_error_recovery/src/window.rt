@@ -8,7 +8,7 @@ use std::alloc::{AllocError, Global};
 use std::str;
 
 /// A part of a source as a text of its own: behind line feeds and blanks, so that all is on its line and at its column, and so many
-/// bytes further on in the source.
+/// bytes further on in the source; from zero down where it is less far on there.
 #[derive(Drop)]
 pub struct Window {
     bytes: Vec<u8>,
@@ -34,36 +34,71 @@ pub(crate) fn window_of(
     Ok(Window { bytes, ahead })
 }
 
+/// How many bytes changes put in between two bytes of a source, the second one's too.
+fn length_before(edits: &[Edit], from: usize, to: usize) -> usize {
+    let mut length = 0usize;
+    for edit in edits {
+        if from <= edit.byte && edit.byte <= to {
+            length = length.saturating_add(edit.text.len());
+        }
+    }
+    length
+}
+
+/// Some bytes with others put in at a place.
+fn with_bytes(
+    alloc: Global,
+    bytes: &[u8],
+    place: usize,
+    others: &[u8],
+) -> Result<Vec<u8>, AllocError> {
+    let mut made = Vec::new(alloc);
+    made.extend_from_slice(bytes.get(..place).unwrap_or(bytes))?;
+    made.extend_from_slice(others)?;
+    made.extend_from_slice(bytes.get(place..).unwrap_or(&[]))?;
+    Ok(made)
+}
+
 impl Window {
     /// The text.
     pub fn text(&self) -> &str {
         str::from_utf8(&self.bytes).unwrap_or("")
     }
 
-    /// Puts blanks in the places of what was taken out of the source.
+    /// Puts blanks in the places of what was taken out of the source. Its lines stay.
     pub(crate) fn blank(&mut self, taken: &[Span]) {
         for span in taken {
             let start = span.start.byte.saturating_sub(self.ahead);
             for place in start..start.saturating_add(span.length) {
-                if let Some(byte) = self.bytes.get_mut(place) {
+                if let Some(byte) = self.bytes.get_mut(place)
+                    && *byte != b'\n'
+                {
                     *byte = b' ';
                 }
             }
         }
     }
 
-    /// Puts a change in its place that makes what it replaces no longer, with blanks behind it.
-    pub(crate) fn write(&mut self, edit: &Edit) {
-        if edit.text.len() > edit.length || edit.byte < self.ahead {
-            return;
-        }
-        let start = edit.byte.saturating_sub(self.ahead);
-        for place in 0..edit.length {
-            let written = edit.text.as_bytes().get(place).copied().unwrap_or(b' ');
-            if let Some(byte) = self.bytes.get_mut(start.saturating_add(place)) {
-                *byte = written;
+    /// Puts in what changes of the source do between two of its bytes, none of which stands on the line of a fault: what is behind is further
+    /// on then than in the source.
+    pub(crate) fn write(
+        &mut self,
+        alloc: Global,
+        edits: &[Edit],
+        from: usize,
+        to: usize,
+    ) -> Result<(), AllocError> {
+        let mut added = 0usize;
+        for (number, edit) in edits.iter().enumerate() {
+            if from <= edit.byte && edit.byte < to {
+                let before = length_before(edits.get(..number).unwrap_or(&[]), from, edit.byte);
+                let place = edit.byte.wrapping_sub(self.ahead).saturating_add(before);
+                self.bytes = with_bytes(alloc, &self.bytes, place, edit.text.as_bytes())?;
+                added = added.saturating_add(edit.text.len());
             }
         }
+        self.ahead = self.ahead.wrapping_sub(added);
+        Ok(())
     }
 
     /// Whether a change of the text helps against a refusal: it is read then, or refused further on.
@@ -82,13 +117,13 @@ impl Window {
     pub fn further_on(&self, finding: Finding) -> Finding {
         let mut finding = finding;
         if let Some(place) = &mut finding.place {
-            place.byte = place.byte.saturating_add(self.ahead);
+            place.byte = place.byte.wrapping_add(self.ahead);
         }
         for related in &mut finding.related {
-            related.span.start.byte = related.span.start.byte.saturating_add(self.ahead);
+            related.span.start.byte = related.span.start.byte.wrapping_add(self.ahead);
         }
         if let Some(edit) = &mut finding.edit {
-            edit.byte = edit.byte.saturating_add(self.ahead);
+            edit.byte = edit.byte.wrapping_add(self.ahead);
         }
         finding
     }

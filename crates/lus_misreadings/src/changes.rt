@@ -181,10 +181,18 @@ fn joined(
     }))
 }
 
-/// Whether a line, an equation or, from its `let` on, the body of a node goes on from a change of a text up to a byte behind it.
+/// Whether a line, an equation or, from its `let` on, the body of a node goes on from a change of a text up to a byte behind it, or a line
+/// from a byte before it. Behind a `tel` nothing does.
 fn goes_on(changed: &str, edit: &Edit, byte: usize) -> bool {
     if is_any(edit.text.as_str(), &["let"]) {
         return true;
+    }
+    if byte < edit.byte {
+        let between = bytes_at(changed, byte, edit.byte).unwrap_or("");
+        return !between.contains("\n");
+    }
+    if edit.text.trim().ends_with("tel") {
+        return false;
     }
     let made = edit.byte.saturating_add(edit.text.len());
     match bytes_at(changed, made, byte) {

@@ -15,6 +15,14 @@ fn is_blank(source: &str, from: usize, to: usize) -> bool {
     }
 }
 
+/// Whether no line ends between two bytes of a source.
+fn is_on_line(source: &str, from: usize, to: usize) -> bool {
+    match bytes_at(source, from, to) {
+        Some(between) => !between.contains("\n"),
+        None => false,
+    }
+}
+
 /// The byte behind the token before some, and the one at which the token behind them begins: their own where there is none.
 fn sides(fault: &Fault<'_>, range: Range, start: usize, end: usize) -> (usize, usize) {
     let (from, to) = range;
@@ -88,7 +96,7 @@ fn bytes_without(fault: &Fault<'_>, range: Range) -> Option<(usize, usize)> {
     let (from, to) = range;
     let (front, rear) = sides(fault, range, start, end);
     let is_before = front < start && is_blank(fault.source, front, start);
-    let is_behind = end < rear && is_blank(fault.source, end, rear);
+    let is_behind = end < rear && is_blank(fault.source, end, rear) && is_on_line(fault.source, end, rear);
     let is_last = end < rear && !is_behind;
     if is_behind && (is_before || is_sign(fault.tokens.get(from.saturating_sub(1)))) {
         Some((start, rear))

@@ -70,7 +70,7 @@ pub fn line_from(text: &str, byte: usize) -> &str {
 }
 
 /// The byte at which the line of a byte begins.
-fn line_start(text: &str, byte: usize) -> usize {
+pub fn line_start(text: &str, byte: usize) -> usize {
     let before = text.as_bytes().get(..byte).unwrap_or(text.as_bytes());
     for (behind, letter) in before.iter().rev().enumerate() {
         if *letter == b'\n' {

@@ -264,7 +264,7 @@ fn compared_from(fault: &Fault<'_>, openings: &[usize]) -> Option<usize> {
     for from in openings {
         let lead = lead_of(fault, *from);
         let is_chain = is_any(lead, &ORDERS) && is_any(fault.found(), &ORDERS)
-            || is_any(lead, &["="]) && is_any(fault.found(), &["="]);
+            || is_any(lead, &EQUALITIES) && lead == fault.found();
         if is_chain {
             return Some(*from);
         }

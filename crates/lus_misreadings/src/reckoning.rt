@@ -260,10 +260,30 @@ fn note_on_decimals(
     Ok(note)
 }
 
+/// What is said of a number with nothing but zeros behind its point, at a place.
+fn told_whole(
+    alloc: Global,
+    fault: &Fault<'_>,
+    place: usize,
+    whole: &str,
+) -> Result<Finding, AllocError> {
+    let sentence = String::from_str(alloc, "floating-point numbers are not supported")?;
+    let wrong = (place, place.saturating_add(3));
+    let edit = written(alloc, fault, wrong, whole)?;
+    let note = format!(in alloc; "This one is a whole number: write `{whole}`.")?;
+    told(alloc, fault, wrong, sentence, note.as_str(), edit)
+}
+
 /// What is said of a number with a point.
 pub fn decimal(alloc: Global, fault: &Fault<'_>) -> Result<Option<Finding>, AllocError> {
     for back in 0..3usize {
         let place = fault.place.saturating_sub(back);
+        if back <= fault.place
+            && let Some((whole, part)) = decimal_at(fault, place)
+            && part.as_bytes().iter().all(|digit| *digit == b'0')
+        {
+            return Ok(Some(told_whole(alloc, fault, place, whole)?));
+        }
         if back <= fault.place && decimal_at(fault, place).is_some() {
             let sentence = String::from_str(alloc, "floating-point numbers are not supported")?;
             let edit = in_hundredths(alloc, fault)?;
