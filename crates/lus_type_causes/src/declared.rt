@@ -2,13 +2,16 @@
 
 use crate::given::Given;
 use crate::kinds::{constructors, variable_at};
-use crate::listing::Listed;
+use crate::meaning::{Misfit, constructor_of, values_of};
+use crate::notes::Meaning;
+use crate::redeclaring::Offer;
 use crate::repair::Repair;
 use crate::said::{Said, Words};
 use lus_faults::{extent_of, start_of, variable_named};
 use lus_program::Kind;
 use lus_source::Member;
 use lus_syntax::{Equation, Expr, Literal, Name, Node, Span};
+use std::alloc::AllocError;
 
 /// Where a constant's value stands.
 fn literal_span(value: &Literal) -> Span {
@@ -88,19 +91,33 @@ fn numbered(expr: &Expr) -> Option<&Expr> {
     }
 }
 
-/// What the note lists on a number or a truth value in the place of one of an enumeration.
-fn listed_of<'t>(given: Given<'t>, wanted: Kind, found: Kind) -> Option<Listed<'t>> {
-    let names = constructors(given.tree, wanted);
-    (!names.is_empty() && matches!(found, Kind::Int | Kind::Bool)).then_some(Listed::Constructors(
-        given.name(wanted),
-        names,
-        None,
-    ))
+/// Whether a value tells its type by itself: by its operator, or as a constructor or a number that stands for no other value.
+fn tells(given: Given<'_>, misfit: Misfit<'_>) -> bool {
+    match (misfit.wanted, misfit.found, misfit.expr) {
+        (Kind::Int, Kind::Bool, Expr::Truth(_, _) | Expr::Binary(_, _, _) | Expr::Unary(_, _, _)) => true,
+        (Kind::Bool, Kind::Int, Expr::Number(number, _)) => *number > 1,
+        (Kind::Bool, Kind::Int, Expr::Binary(_, _, _) | Expr::Unary(_, _, _)) => true,
+        (Kind::Int, Kind::Enum(_), _) => true,
+        (Kind::Bool, Kind::Enum(_), expr) => !given.is_right(expr)
+            && constructor_of(given, expr, misfit.found).is_some(),
+        _ => false,
+    }
+}
+
+/// Whether the declared type of a variable is changed rather than the value that it is given.
+fn offer_of(given: Given<'_>, misfit: Misfit<'_>) -> Result<Offer, AllocError> {
+    let values = values_of(given, misfit)?;
+    let is_told = values.iter().any(|value| tells(given, *value));
+    Ok(if is_told { Offer::Preferred } else { Offer::Told })
 }
 
 /// A right side that has another type than its variable.
-pub fn value<'t>(given: Given<'t>, wanted: Member, found: Kind) -> Option<Said<'t>> {
-    let equation = equation_at(given)?;
+fn value_of<'t>(
+    given: Given<'t>,
+    equation: &'t Equation,
+    wanted: Member,
+    found: Kind,
+) -> Option<Said<'t>> {
     let left = equation.left.get(wanted.number)?;
     let words = Words {
         member: &left.text,
@@ -110,7 +127,6 @@ pub fn value<'t>(given: Given<'t>, wanted: Member, found: Kind) -> Option<Said<'
     let said = Said {
         declared: Some(variable_named(given.node?, &left.text)?.name),
         suspect: Some((left, found)),
-        listed: listed_of(given, wanted.kind, found),
         ..Said::of("value", span, words)
     };
     match numbered(&equation.right) {
@@ -120,7 +136,34 @@ pub fn value<'t>(given: Given<'t>, wanted: Member, found: Kind) -> Option<Said<'
             suspect: None,
             ..said
         }),
-        _ => Some(said),
+        _ if equation.left.len() > 1 => Some(said),
+        _ => Some(said.meaning(Misfit {
+            expr: &equation.right,
+            wanted: wanted.kind,
+            found,
+            is_enclosed: false,
+        })),
+    }
+}
+
+/// A right side that has another type than its variable, with what is meant by it.
+pub fn value<'t>(
+    given: Given<'t>,
+    wanted: Member,
+    found: Kind,
+) -> Result<Option<Said<'t>>, AllocError> {
+    let Some(equation) = equation_at(given) else {
+        return Ok(None);
+    };
+    match value_of(given, equation, wanted, found) {
+        Some(said) => match said.meaning {
+            Some(Meaning::Value(misfit)) => {
+                let offer = offer_of(given, misfit)?;
+                Ok(Some(Said { offer, ..said }))
+            }
+            _ => Ok(Some(said)),
+        },
+        None => Ok(None),
     }
 }
 

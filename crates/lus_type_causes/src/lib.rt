@@ -4,15 +4,26 @@
 mod cause;
 mod clashes;
 mod declared;
+mod fields;
 mod given;
+mod lacking;
 mod kinds;
+mod labels;
 mod listing;
+mod meaning;
 mod members;
+mod notes;
 mod operators;
+mod ordering;
+mod outputs;
 mod reaching;
 mod redeclaring;
 mod repair;
+mod retyping;
 mod rows;
 mod said;
+mod sides;
+mod structures;
+mod twice;
 
 pub use cause::type_cause;

@@ -3,7 +3,9 @@
 use crate::given::Given;
 use crate::repair::{Repair, push_names, variables_of};
 use crate::said::Said;
-use lus_faults::{Edit, Finding, bytes_at, extent_of, slice_of, start_of, variable_named};
+use lus_faults::{
+    Edit, Finding, bytes_at, expressions_in, extent_of, slice_of, start_of, variable_named,
+};
 use lus_syntax::{Expr, Group, Infix, Name, Node, Part, Prefix, TypeName};
 use std::alloc::AllocError;
 
@@ -34,6 +36,13 @@ fn note_on_inputs(given: Given<'_>, node: &Node, parts: &[Part]) -> Result<Strin
         };
         let text = slice_of(given.source, extent_of(given.source, &part.value));
         write!(note, "{front}`{name}` is `{text}`")?;
+    }
+    for name in names.get(parts.len()..).unwrap_or(&[]) {
+        write!(note, ", and nothing stands for `{name}`")?;
+    }
+    for part in parts.get(names.len()..).unwrap_or(&[]) {
+        let text = slice_of(given.source, extent_of(given.source, &part.value));
+        write!(note, ", and `{text}` is for none")?;
     }
     note.push('.')?;
     Ok(note)
@@ -83,6 +92,28 @@ fn push_locals(
     Ok(())
 }
 
+/// Whether a node has an output.
+fn has_output(node: &Node, text: &str) -> bool {
+    node.outputs
+        .iter()
+        .any(|group| group.names.iter().any(|name| name.text.as_str() == text))
+}
+
+/// The field that is taken of an expression.
+fn taken_of<'t>(given: Given<'t>, of: &Expr) -> Result<Option<&'t Name>, AllocError> {
+    for equation in given.equations() {
+        for expr in &expressions_in(given.alloc, &equation.right)? {
+            if let Expr::Field(operand, name) = *expr
+                && start_of(operand).byte == start_of(of).byte
+                && matches!(**operand, Expr::Call(_, _))
+            {
+                return Ok(Some(name));
+            }
+        }
+    }
+    Ok(None)
+}
+
 /// The note on a call of several results in an expression: how each gets a variable.
 fn note_on_results(given: Given<'_>, node: &Node, call: &Expr) -> Result<String, AllocError> {
     let owner = node.name.text.as_str();
@@ -99,7 +130,15 @@ fn note_on_results(given: Given<'_>, node: &Node, call: &Expr) -> Result<String,
         }
         push_free(given, &mut note, owner, name)?;
     }
-    write!(note, ") = {text};`, and use here the one that is meant.")?;
+    write!(note, ") = {text};`, and use here ")?;
+    match taken_of(given, call)? {
+        Some(field) if has_output(node, field.text.as_str()) => {
+            note.push('`')?;
+            push_free(given, &mut note, owner, field.text.as_str())?;
+            note.push_str("`.")?;
+        }
+        _ => note.push_str("the one that is meant.")?,
+    }
     Ok(note)
 }
 
@@ -144,13 +183,13 @@ pub fn note_on_listed(given: Given<'_>, listed: Listed<'_>) -> Result<String, Al
 }
 
 /// Whether an operator takes numbers and gives one.
-fn reckons(sign: &str) -> bool {
+pub fn reckons(sign: &str) -> bool {
     matches!(sign, "+" | "-" | "*" | "/" | "div" | "mod")
 }
 
 /// An expression without the parentheses round it.
 #[cycle(bared)]
-fn bare(expr: &Expr) -> &Expr {
+pub fn bare(expr: &Expr) -> &Expr {
     match expr {
         Expr::Parentheses(_, inner) => bare(inner),
         _ => expr,
@@ -168,7 +207,7 @@ fn is_condition(given: Given<'_>, expr: &Expr) -> bool {
             None => false,
         },
         Expr::Binary(Infix::Compute(op), _, _) => !reckons(op.sign()),
-        Expr::Unary(Prefix::Not, _, _) => true,
+        Expr::Unary(Prefix::Not, _, _) | Expr::Truth(_, _) | Expr::Variadic(_, _, _) => true,
         _ => false,
     }
 }
@@ -195,11 +234,19 @@ fn push_conditions<'t>(
     expr: &'t Expr,
 ) -> Result<(), AllocError> {
     match expr {
-        Expr::Binary(Infix::Compute(op), left, right) if reckons(op.sign()) => {
+        Expr::Binary(Infix::Compute(op), left, right)
+            if reckons(op.sign()) || matches!(op.sign(), "<" | "<=" | ">" | ">=") =>
+        {
             push_operand(given, found, left)?;
             push_operand(given, found, right)
         }
-        Expr::Binary(Infix::Arrow | Infix::Fby, left, right) | Expr::If(_, _, left, right) => {
+        Expr::If(_, condition, left, right) => {
+            push_conditions(given, found, condition)?;
+            push_conditions(given, found, left)?;
+            push_conditions(given, found, right)
+        }
+        Expr::Unary(Prefix::Not, _, inner) => push_conditions(given, found, inner),
+        Expr::Binary(_, left, right) => {
             push_conditions(given, found, left)?;
             push_conditions(given, found, right)
         }
@@ -228,7 +275,11 @@ pub fn counting(given: Given<'_>, right: &Expr) -> Result<Option<Edit>, AllocErr
         let span = extent_of(given.source, condition);
         let inner = slice_of(given.source, extent_of(given.source, bare(condition)));
         text.push_str(bytes_at(given.source, end, span.start.byte).unwrap_or(""))?;
-        write!(text, "(if {inner} then 1 else 0)")?;
+        match bare(condition) {
+            Expr::Truth(true, _) => text.push('1')?,
+            Expr::Truth(false, _) => text.push('0')?,
+            _ => write!(text, "(if {inner} then 1 else 0)")?,
+        }
         end = span.end().byte;
     }
     Ok(Some(Edit {
