@@ -52,15 +52,17 @@ pub fn of_another<'t>(tree: &'t Tree, node: Option<&'t Node>, found: Use<'t>) ->
                 ),
                 Role::Output => (
                     "`{}` is an output of another node",
-                    "An output is known in its own node alone. Call that node, and give the result a variable.",
+                    "An output is known in its own node alone.",
                 ),
                 Role::Input => (
                     "`{}` is an input of another node",
                     "An input is known in its own node alone. Declare `{}` as an input of this node too.",
                 ),
             };
+            let is_output = variable.role == Role::Output && found.purpose == Purpose::Value;
             return Some(Said {
                 beside: Some((variable.name.span, label)),
+                repair: is_output.then_some(Repair::Call(here, other)),
                 ..told_of(found.name, found.purpose.sentence(), note)
             });
         }

@@ -223,7 +223,7 @@ fn needless<'t>(
     if variable.role == Role::Input {
         let sentence = "`{}` is an input and cannot have an equation";
         let note =
-            "An input gets its value from the caller. Give the new value a name of its own: declare a local by `var` before `let`, write its equation, and use it where this value is meant.";
+            "An input gets its value from the caller. Give the new value a name of its own: declare a local before `let`, as `var new_{}: ..;`, write `new_{} = ..;`, and use that where the new value is meant.";
         let said = Said {
             beside: Some((variable.name.span, "`{}` is declared as an input")),
             ..told_of(left, sentence, note)

@@ -1,21 +1,52 @@
-//! What is said of names besides: how a node is called, what a variable without an equation may be, and which labels there are.
+//! What is said of names besides: how a node is called, what a variable without an equation may be, and the values of constants.
 
 use crate::calling::call_of;
-use crate::clocks::type_of;
 use crate::given::Given;
 use crate::lefts::is_used;
-use crate::types::push_list;
-use lus_faults::{
-    Edit, Finding, Plain, Role, expressions_in, extent_of, slice_of, variable_named,
-};
-use lus_syntax::{
-    Definition, Equation, Expr, Group, Infix, Label, Lead, Literal, Name, Node, Part, Span,
-    TypeName,
-};
+use lus_faults::{Edit, Finding, Role, extent_of, slice_of, variable_named};
+use lus_syntax::{Equation, Expr, Group, Infix, Literal, Name, Node, Span, TypeName};
 use std::alloc::AllocError;
 
+/// The variable of a node that is meant for an input of another one: that of its name, or else the only input of its type.
+fn argument_for<'t>(node: &'t Node, group: &Group, name: &Name) -> Option<&'t str> {
+    if let Some(variable) = variable_named(node, name.text.as_str()) {
+        return Some(variable.name.text.as_str());
+    }
+    let mut found = None;
+    for own in &node.inputs {
+        if type_text(&own.type_name) == type_text(&group.type_name) {
+            for input in &own.names {
+                if found.is_some() {
+                    return None;
+                }
+                found = Some(input.text.as_str());
+            }
+        }
+    }
+    found
+}
+
+/// Appends what is passed to a node's inputs in another one, and says whether that is known for all.
+fn push_arguments(text: &mut String, node: &Node, called: &Node) -> Result<bool, AllocError> {
+    let (mut comma, mut are_known) = ("", true);
+    for group in &called.inputs {
+        for name in &group.names {
+            let argument = match argument_for(node, group, name) {
+                Some(argument) => argument,
+                None => {
+                    are_known = false;
+                    name.text.as_str()
+                }
+            };
+            write!(text, "{comma}{argument}")?;
+            comma = ", ";
+        }
+    }
+    Ok(are_known)
+}
+
 /// Appends the names of variables, with commas between.
-fn push_inputs(text: &mut String, groups: &[Group]) -> Result<(), AllocError> {
+fn push_outputs(text: &mut String, groups: &[Group]) -> Result<(), AllocError> {
     let mut comma = "";
     for group in groups {
         for name in &group.names {
@@ -25,14 +56,6 @@ fn push_inputs(text: &mut String, groups: &[Group]) -> Result<(), AllocError> {
         }
     }
     Ok(())
-}
-
-/// Whether all names of groups are variables of a node.
-fn are_variables(node: &Node, groups: &[Group]) -> bool {
-    groups.iter().all(|group| group
-        .names
-        .iter()
-        .all(|name| variable_named(node, name.text.as_str()).is_some()))
 }
 
 /// How many names groups have.
@@ -54,16 +77,19 @@ pub fn with_call(
 ) -> Result<Finding, AllocError> {
     let owner = called.name.text.as_str();
     let mut call = format!(in given.alloc; "{owner}(")?;
-    push_inputs(&mut call, &called.inputs)?;
+    let is_known = push_arguments(&mut call, node, called)?;
     call.push(')')?;
     let is_one = count_of(&called.outputs) == 1;
-    let is_known = are_variables(node, &called.inputs);
-    let mut note = format!(in given.alloc; "A node is called with its inputs, as in `{call}`")?;
+    let mut note = match &finding.note {
+        Some(before) if !before.is_empty() => format!(in given.alloc; "{before} ")?,
+        _ => String::new(given.alloc),
+    };
+    write!(note, "A node is called with its inputs, as in `{call}`")?;
     if is_one {
         note.push('.')?;
     } else {
         note.push_str(", alone on the right of an equation with a variable for each output: `(")?;
-        push_inputs(&mut note, &called.outputs)?;
+        push_outputs(&mut note, &called.outputs)?;
         write!(note, ") = {call};`.")?;
     }
     let edit = if is_one && is_known {
@@ -141,7 +167,16 @@ fn with_chain(
     let note = format!(in given.alloc;
         "Only the first `=` of an equation defines. Perhaps two equations are meant, `{text} = {value};` and `{first} = {text};`."
     )?;
-    finding.with_note(given.alloc, note.as_str())
+    let byte = equation.left.first().map_or(0, |left| left.span.start.byte);
+    let end = extent_of(given.source, right).end().byte;
+    let edit = Edit {
+        byte,
+        length: end.saturating_sub(byte),
+        text: format!(in given.alloc; "{text} = {value}; {first} = {text}")?,
+    };
+    Ok(finding
+        .with_note(given.alloc, note.as_str())?
+        .with_edit(Some(edit)))
 }
 
 /// The name of a type as it is written.
@@ -179,107 +214,6 @@ pub fn with_undefined(
         })?;
     }
     finding.with_note(given.alloc, note.as_str())
-}
-
-/// The `merge` of a node that has a label at its place: its variable and its branches.
-fn merge_with<'t>(
-    given: Given<'t>,
-    node: &'t Node,
-    label: &Name,
-) -> Result<Option<(&'t Name, &'t [Part])>, AllocError> {
-    for equation in &node.equations {
-        for expr in &expressions_in(given.alloc, &equation.right)? {
-            if let Expr::Merge(_, variable, parts) = *expr
-                && parts.iter().any(|part| is_label(part, label))
-            {
-                return Ok(Some((variable, parts.as_slice())));
-            }
-        }
-    }
-    Ok(None)
-}
-
-/// Whether a name is the label of a branch.
-fn is_label(part: &Part, name: &Name) -> bool {
-    match &part.lead {
-        Lead::Branch(_, label) => match &**label {
-            Label::Constructor(own) => own.span.start.byte == name.span.start.byte,
-            Label::Truth(_, _) => false,
-        },
-        _ => false,
-    }
-}
-
-/// Whether a branch has a label.
-fn has_label(parts: &[Part], text: &str) -> bool {
-    parts.iter().any(|part| match &part.lead {
-        Lead::Branch(_, label) => match &**label {
-            Label::Constructor(own) => own.text.as_str() == text,
-            Label::Truth(_, _) => false,
-        },
-        _ => false,
-    })
-}
-
-/// The only constructor without a branch.
-fn lacking<'t>(names: &'t [Name], parts: &[Part]) -> Option<&'t Name> {
-    let mut found = None;
-    for name in names {
-        if !has_label(parts, name.text.as_str()) {
-            if found.is_some() {
-                return None;
-            }
-            found = Some(name);
-        }
-    }
-    found
-}
-
-/// A finding on a label that no enumeration has, with those of the variable of its `merge`.
-pub fn with_label(
-    given: Given<'_>,
-    finding: Finding,
-    node: &Node,
-    label: &Name,
-) -> Result<Finding, AllocError> {
-    let Some((variable, parts)) = merge_with(given, node, label)? else {
-        return Ok(finding);
-    };
-    let text = variable.text.as_str();
-    let (declaration, names) = match type_of(given.tree, node, text) {
-        Some(Plain::Declared(_, declaration)) => match &declaration.definition {
-            Definition::Enumeration(names) => (declaration, names),
-            _ => return Ok(finding),
-        },
-        Some(Plain::Bool) => {
-            let note = format!(in given.alloc;
-                "`{text}` is a `bool`: the labels of its branches are `true` and `false`."
-            )?;
-            return finding.with_note(given.alloc, note.as_str());
-        }
-        _ => return Ok(finding),
-    };
-    let of = declaration.name.text.as_str();
-    let mut note = format!(in given.alloc; "`{text}` is of type `{of}`, whose constructors are ")?;
-    push_list(&mut note, names)?;
-    note.push_str(": each has one branch.")?;
-    let edit = match lacking(names, parts) {
-        Some(meant) => {
-            let meant = meant.text.as_str();
-            write!(note, " Perhaps `{meant}` is meant, which has none yet.")?;
-            Some(Edit {
-                byte: label.span.start.byte,
-                length: label.span.length,
-                text: String::from_str(given.alloc, meant)?,
-            })
-        }
-        None => None,
-    };
-    Ok(Finding {
-        note: Some(note),
-        edit,
-        ..finding
-    })
 }
 
 /// Where a constant's value stands.

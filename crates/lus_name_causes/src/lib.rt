@@ -13,6 +13,7 @@ mod elsewhere;
 mod equations;
 mod given;
 mod hints;
+mod labels;
 mod lefts;
 mod looking;
 mod repair;

@@ -60,7 +60,7 @@ fn note_on_node(text: &str) -> &'static str {
 }
 
 /// Whether a label stands for all others in other languages.
-fn is_default(text: &str) -> bool {
+pub fn is_default(text: &str) -> bool {
     matches!(text, "_" | "default" | "otherwise" | "others")
 }
 
@@ -201,8 +201,7 @@ fn valued<'t>(tree: &'t Tree, node: Option<&'t Node>, found: Use<'t>) -> Option<
 
 /// The change that mends a label, by those that its `merge` may have.
 fn of_labels<'t>(node: Option<&'t Node>, found: Use<'t>) -> Option<Repair<'t>> {
-    let text = found.name.text.as_str();
-    if found.purpose != Purpose::Constructor || is_default(text) {
+    if found.purpose != Purpose::Constructor {
         return None;
     }
     Some(Repair::Label(node?))

@@ -136,21 +136,44 @@ fn field<'t>(
 
 /// What is said of a condition that a sum or a product has as an operand, with numbers in the place of all of its equation; or of one behind
 /// a minus.
-fn counted_up<'t>(given: Given<'t>, said: Said<'t>, expr: &'t Expr) -> Said<'t> {
+fn counted_up<'t>(
+    given: Given<'t>,
+    said: Said<'t>,
+    expr: &'t Expr,
+    operand: &'t Expr,
+) -> Said<'t> {
     match (expr, given.equation_with(expr)) {
         (Expr::Binary(Infix::Compute(_), _, _), Some(equation)) => Said {
-            repair: Some(Repair::Numbers(&equation.right)),
+            repair: Some(Repair::Numbers(&equation.right, operand)),
             ..said
         },
-        (Expr::Unary(Prefix::Negate, _, operand), _) => Said {
-            advice: "opposite",
-            words: Words {
-                first: given.text_of(operand),
-                ..said.words
-            },
-            ..said
-        },
+        (Expr::Unary(Prefix::Negate, _, operand), _) => opposite(given, said, operand),
         _ => said,
+    }
+}
+
+/// What is said of a condition that is subtracted, or stands behind a minus: its opposite may be meant.
+fn opposite<'t>(given: Given<'t>, said: Said<'t>, operand: &'t Expr) -> Said<'t> {
+    Said {
+        advice: "opposite",
+        words: Words {
+            first: given.text_of(operand),
+            ..said.words
+        },
+        ..said
+    }
+}
+
+/// Whether an expression subtracts from one, where its equation defines a condition.
+fn is_toggled(given: Given<'_>, expr: &Expr) -> bool {
+    let Some(equation) = given.equation_with(expr) else {
+        return false;
+    };
+    match (expr, equation.left.as_slice()) {
+        (Expr::Binary(Infix::Compute(op), left, _), [name]) => op.sign() == "-"
+            && matches!(**left, Expr::Number(1, _))
+            && given.has_kind(name.text.as_str(), Kind::Bool),
+        _ => false,
     }
 }
 
@@ -180,7 +203,11 @@ fn wrong_operand<'t>(
     }
     let said = said.suspecting(operand, wanted.kind);
     if wanted.kind == Kind::Int && found == Kind::Bool {
-        return Some(counted_up(given, said, expr));
+        return Some(if is_toggled(given, expr) {
+            opposite(given, said, operand)
+        } else {
+            counted_up(given, said, expr, operand)
+        });
     }
     let misfit = Misfit {
         expr: operand,

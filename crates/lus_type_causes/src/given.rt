@@ -2,7 +2,7 @@
 
 use crate::kinds::{is_kind, name_of, push_of_kind};
 use crate::said::Words;
-use lus_faults::{extent_of, slice_of, start_of, variable_named};
+use lus_faults::{Role, extent_of, slice_of, start_of, variable_named};
 use lus_program::Kind;
 use lus_syntax::{Equation, Expr, Name, Node, Place, Tree};
 use std::alloc::{AllocError, Global};
@@ -69,6 +69,32 @@ impl<'t> Given<'t> {
             Some(node) => variable_named(node, text).is_some(),
             None => false,
         }
+    }
+
+    /// Whether a name is that of an input of the node.
+    pub fn is_input(self, text: &str) -> bool {
+        match self.node {
+            Some(node) => match variable_named(node, text) {
+                Some(variable) => variable.role == Role::Input,
+                None => false,
+            },
+            None => false,
+        }
+    }
+
+    /// Whether a name stands on the left of an equation of the node, and not of one that was made for its declaration.
+    pub fn is_defined(self, text: &str) -> bool {
+        let declared = match self.node {
+            Some(node) => match variable_named(node, text) {
+                Some(variable) => variable.name.span.start.byte,
+                None => 0,
+            },
+            None => 0,
+        };
+        self.equations().iter().any(|equation| equation
+            .left
+            .iter()
+            .any(|name| name.text.as_str() == text && name.span.start.byte != declared))
     }
 
     /// Whether a variable of the node has a type.

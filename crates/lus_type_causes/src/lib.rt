@@ -1,6 +1,7 @@
 //! What is said of types, counts, labels or fields that disagree, by what the compiler's check had in hand.
 #![tactic(auto)]
 
+mod alike;
 mod cause;
 mod clashes;
 mod declared;
@@ -19,6 +20,7 @@ mod outputs;
 mod reaching;
 mod redeclaring;
 mod repair;
+mod replacing;
 mod retyping;
 mod rows;
 mod said;

@@ -6,15 +6,16 @@ use crate::said::Said;
 use lus_faults::{
     Edit, Finding, bytes_at, expressions_in, extent_of, slice_of, start_of, variable_named,
 };
-use lus_syntax::{Expr, Group, Infix, Name, Node, Part, Prefix, TypeName};
+use lus_syntax::{Expr, Group, Infix, Name, Node, Part, Prefix, Span, TypeName};
 use std::alloc::AllocError;
 
-/// What a note lists: the inputs that arguments of a call are for; variables for the results of a call; or the constructors of a type, one
-/// of which is written, or compared with a value by a sign.
+/// What a note lists: the inputs that arguments of a call are for; variables for the results of a call; which outputs variables take; or the
+/// constructors of a type, one of which is compared with a value by a sign.
 #[derive(Clone, Copy)]
 pub enum Listed<'t> {
     Inputs(&'t Node, &'t [Part]),
     Results(&'t Node, &'t Expr),
+    Outputs(&'t Node, &'t [Name]),
     Constructors(&'t str, &'t [Name], Option<(&'t Expr, &'static str)>),
 }
 
@@ -29,10 +30,10 @@ fn note_on_inputs(given: Given<'_>, node: &Node, parts: &[Part]) -> Result<Strin
     let mut note = format!(in given.alloc; "`{owner}` has the {word} ")?;
     push_names(&mut note, &names)?;
     for (place, (name, part)) in names.iter().zip(parts).enumerate() {
-        let front = if place == 0 {
-            ", in this order. Here "
-        } else {
-            ", "
+        let front = match (place, names.len()) {
+            (0, 1) => ". Here ",
+            (0, _) => ", in this order. Here ",
+            _ => ", ",
         };
         let text = slice_of(given.source, extent_of(given.source, &part.value));
         write!(note, "{front}`{name}` is `{text}`")?;
@@ -42,7 +43,7 @@ fn note_on_inputs(given: Given<'_>, node: &Node, parts: &[Part]) -> Result<Strin
     }
     for part in parts.get(names.len()..).unwrap_or(&[]) {
         let text = slice_of(given.source, extent_of(given.source, &part.value));
-        write!(note, ", and `{text}` is for none")?;
+        write!(note, ", and nothing takes `{text}`")?;
     }
     note.push('.')?;
     Ok(note)
@@ -171,11 +172,31 @@ fn note_on_values(
     Ok(note)
 }
 
+/// The note on variables that take the outputs of a call: which output each is for.
+fn note_on_taking(given: Given<'_>, node: &Node, left: &[Name]) -> Result<String, AllocError> {
+    let mut note = String::from_str(
+        given.alloc,
+        "The variables take the outputs in their order: ",
+    )?;
+    for (place, (name, output)) in left
+        .iter()
+        .zip(variables_of(given.alloc, &node.outputs)?.iter())
+        .enumerate()
+    {
+        let comma = if place == 0 { "" } else { ", " };
+        let text = name.text.as_str();
+        write!(note, "{comma}`{text}` takes `{output}`")?;
+    }
+    note.push('.')?;
+    Ok(note)
+}
+
 /// The note that lists something.
 pub fn note_on_listed(given: Given<'_>, listed: Listed<'_>) -> Result<String, AllocError> {
     match listed {
         Listed::Inputs(node, parts) => note_on_inputs(given, node, parts),
         Listed::Results(node, call) => note_on_results(given, node, call),
+        Listed::Outputs(node, left) => note_on_taking(given, node, left),
         Listed::Constructors(of, constructors, compared) => {
             note_on_values(given, of, constructors, compared)
         }
@@ -218,12 +239,15 @@ fn push_operand<'t>(
     given: Given<'t>,
     found: &mut Vec<&'t Expr>,
     expr: &'t Expr,
+    told: Span,
 ) -> Result<(), AllocError> {
-    if is_condition(given, expr) {
+    let own = extent_of(given.source, expr);
+    let is_told = own.start.byte == told.start.byte && own.length == told.length;
+    if is_told || is_condition(given, expr) {
         found.push(expr)?;
         return Ok(());
     }
-    push_conditions(given, found, expr)
+    push_conditions(given, found, expr, told)
 }
 
 /// Adds the conditions among the operands of the sums and products of an expression.
@@ -232,39 +256,48 @@ fn push_conditions<'t>(
     given: Given<'t>,
     found: &mut Vec<&'t Expr>,
     expr: &'t Expr,
+    told: Span,
 ) -> Result<(), AllocError> {
     match expr {
         Expr::Binary(Infix::Compute(op), left, right)
             if reckons(op.sign()) || matches!(op.sign(), "<" | "<=" | ">" | ">=") =>
         {
-            push_operand(given, found, left)?;
-            push_operand(given, found, right)
+            push_operand(given, found, left, told)?;
+            push_operand(given, found, right, told)
         }
         Expr::If(_, condition, left, right) => {
-            push_conditions(given, found, condition)?;
-            push_conditions(given, found, left)?;
-            push_conditions(given, found, right)
+            push_conditions(given, found, condition, told)?;
+            push_conditions(given, found, left, told)?;
+            push_conditions(given, found, right, told)
         }
-        Expr::Unary(Prefix::Not, _, inner) => push_conditions(given, found, inner),
+        Expr::Unary(Prefix::Not, _, inner) => push_conditions(given, found, inner, told),
         Expr::Binary(_, left, right) => {
-            push_conditions(given, found, left)?;
-            push_conditions(given, found, right)
+            push_conditions(given, found, left, told)?;
+            push_conditions(given, found, right, told)
         }
-        Expr::Parentheses(_, inner) => push_conditions(given, found, inner),
+        Expr::Parentheses(_, inner) => push_conditions(given, found, inner, told),
         _ => Ok(()),
     }
 }
 
 /// The conditions among the operands of the sums and products of a right side, in the order of the text.
-fn conditions_in<'t>(given: Given<'t>, right: &'t Expr) -> Result<Vec<&'t Expr>, AllocError> {
+fn conditions_in<'t>(
+    given: Given<'t>,
+    right: &'t Expr,
+    told: &Expr,
+) -> Result<Vec<&'t Expr>, AllocError> {
     let mut found = Vec::new(given.alloc);
-    push_conditions(given, &mut found, right)?;
+    push_conditions(given, &mut found, right, extent_of(given.source, told))?;
     Ok(found)
 }
 
 /// The change by which each condition among the operands of sums and products becomes a number.
-pub fn counting(given: Given<'_>, right: &Expr) -> Result<Option<Edit>, AllocError> {
-    let conditions = conditions_in(given, right)?;
+pub fn counting(
+    given: Given<'_>,
+    right: &Expr,
+    told: &Expr,
+) -> Result<Option<Edit>, AllocError> {
+    let conditions = conditions_in(given, right, told)?;
     let Some(first) = conditions.first() else {
         return Ok(None);
     };
@@ -295,10 +328,10 @@ pub fn push_further(
     said: &Said<'_>,
     finding: &mut Finding,
 ) -> Result<(), AllocError> {
-    let (Some(Repair::Numbers(right)), Some((told, _))) = (said.repair, said.first) else {
+    let Some(Repair::Numbers(right, told)) = said.repair else {
         return Ok(());
     };
-    for condition in &conditions_in(given, right)? {
+    for condition in &conditions_in(given, right, told)? {
         let span = extent_of(given.source, condition);
         if span.start.byte != start_of(told).byte {
             let label = String::from_str(given.alloc, "this has type `bool` too")?;

@@ -4,7 +4,7 @@ use crate::given::Given;
 use crate::kinds::{constructors, fields, fields_of_kind, has_name, place_of};
 use crate::listing::reckons;
 use crate::structures::structured;
-use lus_faults::{Edit, extent_of, joined};
+use lus_faults::nearest;
 use lus_program::Kind;
 use lus_syntax::{Expr, Infix, Name, Part, Prefix};
 use std::alloc::AllocError;
@@ -23,7 +23,7 @@ pub struct Misfit<'t> {
 
 impl<'t> Misfit<'t> {
     /// The same of a part of the value.
-    fn of(self, expr: &'t Expr, is_enclosed: bool) -> Misfit<'t> {
+    pub fn of(self, expr: &'t Expr, is_enclosed: bool) -> Misfit<'t> {
         Misfit {
             expr,
             is_enclosed,
@@ -173,16 +173,74 @@ fn numbered(given: Given<'_>, expr: &Expr, names: &[Name]) -> Result<Option<Stri
     let Expr::Number(number, _) = expr else {
         return choice(given, expr, names, true);
     };
+    let mut counted = None;
     for (place, name) in names.iter().enumerate() {
         if u64::try_from(*number) == Ok(place as u64) {
-            return word(given, name.text.as_str());
+            counted = Some(name);
         }
     }
-    Ok(None)
+    let used = used_beside(given, expr, names)?;
+    match counted {
+        Some(name) if !used.contains(&name.text.as_str()) => word(given, name.text.as_str()),
+        _ => unused(given, names, &used),
+    }
+}
+
+/// The constructors among some that the equation of an expression has, beside comparisons.
+fn used_beside<'t>(
+    given: Given<'t>,
+    expr: &Expr,
+    names: &[Name],
+) -> Result<Vec<&'t str>, AllocError> {
+    let mut used = Vec::new(given.alloc);
+    let Some(equation) = given.equation_with(expr) else {
+        return Ok(used);
+    };
+    let mut values = Vec::new(given.alloc);
+    push_values(
+        &mut values,
+        Misfit {
+            expr: &equation.right,
+            wanted: Kind::Bool,
+            found: Kind::Bool,
+            is_enclosed: false,
+        },
+        &equation.right,
+        false,
+    )?;
+    for value in &values {
+        if let Expr::Name(name) = value.expr
+            && has_name(names, name.text.as_str())
+        {
+            used.push(name.text.as_str())?;
+        }
+    }
+    Ok(used)
+}
+
+/// The only constructor that isn't used, where others are.
+fn unused(given: Given<'_>, names: &[Name], used: &[&str]) -> Result<Option<String>, AllocError> {
+    let mut found = None;
+    for name in names {
+        if !used.contains(&name.text.as_str()) {
+            if found.is_some() {
+                return Ok(None);
+            }
+            found = Some(name.text.as_str());
+        }
+    }
+    match found {
+        Some(text) if !used.is_empty() => word(given, text),
+        _ => Ok(None),
+    }
 }
 
 /// A constructor in the place of a condition: where there are two, the second one where it holds.
 fn decided(given: Given<'_>, expr: &Expr, names: &[Name]) -> Result<Option<String>, AllocError> {
+    if matches!(expr, Expr::Truth(_, _)) && names.len() > 2 {
+        let used = used_beside(given, expr, names)?;
+        return unused(given, names, &used);
+    }
     let (Some(first), Some(second), 2) = (names.first(), names.get(1), names.len()) else {
         return Ok(None);
     };
@@ -247,56 +305,12 @@ fn nearest_constructor(
     for constructor in own {
         names.push(constructor.text.as_str())?;
     }
-    match lus_faults::nearest(given.alloc, name.text.as_str(), &names)? {
+    match nearest(given.alloc, name.text.as_str(), &names)? {
         Some(meant) if place_of(constructors(given.tree, misfit.found), &name.text).is_some() => {
             word(given, meant)
         }
         _ => Ok(None),
     }
-}
-
-/// The comparison on the right of an operator: of all of an expression, or of its last operand.
-fn last_comparison<'t>(expr: &'t Expr, operator: &str) -> Option<(&'t Expr, &'static str)> {
-    let Expr::Binary(Infix::Compute(op), left, right) = expr else {
-        return None;
-    };
-    match op.sign() {
-        "=" => Some((left, "=")),
-        "<>" => Some((left, "<>")),
-        sign if sign == operator => match &**right {
-            Expr::Binary(Infix::Compute(inner), subject, _) if inner.sign() == "=" => {
-                Some((subject, "="))
-            }
-            Expr::Binary(Infix::Compute(inner), subject, _) if inner.sign() == "<>" => {
-                Some((subject, "<>"))
-            }
-            _ => None,
-        },
-        _ => None,
-    }
-}
-
-/// The comparison that is meant by a value behind another comparison and an `or` or an `and`: with what that compares.
-pub fn compared_alike(
-    given: Given<'_>,
-    expr: &Expr,
-    misfit: Misfit<'_>,
-) -> Result<Option<String>, AllocError> {
-    let Expr::Binary(Infix::Compute(op), left, right) = expr else {
-        return Ok(None);
-    };
-    let is_last = extent_of(given.source, right).start.byte
-        == extent_of(given.source, misfit.expr).start.byte;
-    let is_value = matches!(misfit.expr, Expr::Number(_, _))
-        || constructor_of(given, misfit.expr, misfit.found).is_some();
-    if !is_last || !is_value || !matches!(op.sign(), "or" | "and") {
-        return Ok(None);
-    }
-    let Some((subject, sign)) = last_comparison(left, op.sign()) else {
-        return Ok(None);
-    };
-    let (subject, value) = (given.text_of(subject), given.text_of(misfit.expr));
-    Ok(Some(format!(in given.alloc; "{subject} {sign} {value}")?))
 }
 
 /// What is written in the place of a value without parts, if that is plain.
@@ -321,46 +335,4 @@ pub fn rewritten(given: Given<'_>, misfit: Misfit<'_>) -> Result<Option<String>,
         (Kind::Enum(_), Kind::Enum(_)) => nearest_constructor(given, misfit),
         _ => Ok(None),
     }
-}
-
-/// The change that writes a text in the place of a value.
-fn written(given: Given<'_>, misfit: Misfit<'_>, text: &str) -> Result<Edit, AllocError> {
-    let span = extent_of(given.source, misfit.expr);
-    let text = if misfit.is_enclosed && text.contains(" ") {
-        format!(in given.alloc; "({text})")?
-    } else {
-        String::from_str(given.alloc, text)?
-    };
-    Ok(Edit {
-        byte: span.start.byte,
-        length: span.length,
-        text,
-    })
-}
-
-/// What is written in the place of a misfit: the change, if each of its values has one, and where it has only one value, the text of that.
-#[derive(Drop)]
-pub struct Replacement {
-    pub edit: Option<Edit>,
-    pub text: Option<String>,
-}
-
-/// What is written in the place of a misfit's values.
-pub fn rewriting(given: Given<'_>, misfit: Misfit<'_>) -> Result<Replacement, AllocError> {
-    let values = values_of(given, misfit)?;
-    let mut edits = Vec::new(given.alloc);
-    let mut last = None;
-    for value in &values {
-        let Some(text) = rewritten(given, *value)? else {
-            return Ok(Replacement {
-                edit: None,
-                text: None,
-            });
-        };
-        edits.push(written(given, *value, text.as_str())?)?;
-        last = Some(text);
-    }
-    let edit = joined(given.alloc, given.source, &edits)?;
-    let text = if values.len() == 1 { last } else { None };
-    Ok(Replacement { edit, text })
 }

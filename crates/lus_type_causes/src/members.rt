@@ -8,7 +8,7 @@ use crate::kinds::{
 use crate::listing::Listed;
 use crate::notes::Meaning;
 use crate::reaching::Through;
-use crate::repair::{Lacking, Repair};
+use crate::repair::{Lacking, Repair, is_copied};
 use crate::said::{Said, Words};
 use lus_faults::{extent_of, label_span};
 use lus_program::Kind;
@@ -249,7 +249,11 @@ fn counted_field<'t>(
         Some(last) if count == 0 && may_be_completed(given.tree, groups, parts) => {
             let end = extent_of(given.source, &last.value).end().byte;
             Some(Said {
-                advice: "completed",
+                advice: if is_copied(given, groups, parts) {
+                    "copied"
+                } else {
+                    "completed"
+                },
                 repair: Some(Repair::Fields(end, groups, parts)),
                 ..said
             })

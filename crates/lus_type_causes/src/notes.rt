@@ -1,16 +1,18 @@
 //! What is said of values that have another type than is wanted.
 
 use crate::given::Given;
+use crate::alike::{alike_edit, compared_alike};
 use crate::fields::with_field;
 use crate::kinds::constructors;
 use crate::labels::with_label;
 use crate::lacking::with_argument;
-use crate::meaning::{Misfit, compared_alike, constructor_of, is_named, rewriting};
+use crate::meaning::{Misfit, constructor_of, is_named};
 use crate::ordering::note_on_order;
 use crate::repair::push_names;
+use crate::replacing::rewriting;
 use crate::structures::{note_on_pair, note_on_taken, note_on_whole};
 use crate::twice::with_twice;
-use lus_faults::{Edit, Finding, start_of};
+use lus_faults::Finding;
 use lus_program::Kind;
 use lus_source::Member;
 use lus_syntax::{Expr, Label, Name, Part};
@@ -100,7 +102,7 @@ fn note_on_numbered(
     if !written.is_empty() {
         write!(note, ". Perhaps `{written}` is meant, if they are counted from 0.")?;
     } else if has_change {
-        note.push_str(". Perhaps those below are meant, if they are counted from 0.")?;
+        note.push_str(". Perhaps those are meant that have these numbers, counted from 0.")?;
     } else {
         note.push_str(". Write one of them.")?;
     }
@@ -267,11 +269,7 @@ fn with_operand(
         let note = format!(in given.alloc;
             "`{text}` is no condition by itself: each comparison is written whole. Perhaps `{written}` is meant."
         )?;
-        let edit = Some(Edit {
-            byte: start_of(misfit.expr).byte,
-            length: text.len(),
-            text: written,
-        });
+        let edit = alike_edit(given, expr, misfit)?;
         return Ok(Finding {
             note: Some(note),
             edit,

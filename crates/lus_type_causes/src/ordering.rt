@@ -4,7 +4,7 @@ use crate::given::Given;
 use crate::kinds::{constructors, place_of};
 use crate::meaning::{constructor_of, is_named};
 use lus_program::Kind;
-use lus_syntax::{Expr, Infix, Name};
+use lus_syntax::{Expr, Infix, Name, Prefix};
 use std::alloc::AllocError;
 
 /// How many constructors an enumeration has at the most of which each is written.
@@ -78,7 +78,7 @@ fn comparison<'t>(
 fn tests_of(given: Given<'_>, expr: &Expr, kind: Kind) -> Result<String, AllocError> {
     let names = constructors(given.tree, kind);
     if let Some((subject, sign, name)) = comparison(given, expr, kind)
-        && is_named(subject)
+        && is_plain(subject)
         && let Some(place) = place_of(names, name.text.as_str())
         && let Some(range) = compared_by(sign, place, names.len())
     {
@@ -112,6 +112,14 @@ fn one_added<'t>(expr: &'t Expr) -> Option<&'t Expr> {
     }
 }
 
+/// Whether an expression is a name, a field or a call, or its value one instant before.
+fn is_plain(expr: &Expr) -> bool {
+    match expr {
+        Expr::Unary(Prefix::Pre, _, inner) => is_named(inner),
+        _ => is_named(expr),
+    }
+}
+
 /// Whether an operator compares by order.
 fn orders(expr: &Expr) -> bool {
     match expr {
@@ -142,7 +150,7 @@ pub fn note_on_order(
         return Ok(Some(note));
     }
     match one_added(expr) {
-        Some(operand) if is_named(operand) && names.len() <= MOST_CHOSEN => {
+        Some(operand) if is_plain(operand) && names.len() <= MOST_CHOSEN => {
             let next = next_of(given, given.text_of(operand), names)?;
             Ok(Some(format!(in given.alloc;
                 "The values of the enumeration `{of}` have no numbers. The next one is chosen by `{next}`."

@@ -58,7 +58,11 @@ fn shown(given: Given<'_>, equation: &Equation, owner: &str) -> Result<String, A
 /// Appends that the variables from a place on need equations of their own.
 fn push_others(note: &mut String, left: &[Name], from: usize) -> Result<(), AllocError> {
     for (place, name) in left.get(from..).unwrap_or(&[]).iter().enumerate() {
-        let front = if place == 0 { " Write equations of their own for " } else { ", " };
+        let front = if place == 0 {
+            " Each other variable needs an equation of its own: "
+        } else {
+            ", "
+        };
         let text = name.text.as_str();
         write!(note, "{front}`{text}`")?;
     }

@@ -142,7 +142,13 @@ fn offered(
             finding.with_note(alloc, note.as_str())
         }
         Offer::Preferred => {
-            let note = format!(in alloc; "Perhaps `{text}` is to be declared as `{kind}`. {before}")?;
+            let (front, rest) = match before.strip_prefix("Perhaps ") {
+                Some(rest) => ("Or ", rest),
+                None => ("", before.as_str()),
+            };
+            let note = format!(in alloc;
+                "Perhaps `{text}` is to be declared as `{kind}`. {front}{rest}"
+            )?;
             let edit = declared_edit(given, other)?;
             Ok(Finding {
                 note: Some(note),

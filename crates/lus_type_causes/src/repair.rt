@@ -27,8 +27,8 @@ pub enum Repair<'t> {
     Part(Span, Span),
     /// The fields that a structure lacks, behind a byte.
     Fields(usize, &'t [Fields], &'t [Part]),
-    /// Numbers in the place of the conditions among the operands of sums and products.
-    Numbers(&'t Expr),
+    /// Numbers in the place of the conditions among the operands of sums and products of an expression, one of which is told.
+    Numbers(&'t Expr, &'t Expr),
 }
 
 /// The branches of a `merge`, which ends before a byte; the constructors of its variable, none of a `bool`; and the value of the
@@ -129,6 +129,14 @@ fn owner_in<'t>(given: Given<'t>, parts: &'t [Part], field: &str) -> Option<&'t 
     None
 }
 
+/// Whether a field that a structure lacks is copied from where its others come from.
+pub fn is_copied(given: Given<'_>, groups: &[Fields], parts: &[Part]) -> bool {
+    groups.iter().any(|group| group.names.iter().any(|name| {
+        let field = name.text.as_str();
+        part_named(parts, field).is_none() && owner_in(given, parts, field).is_some()
+    }))
+}
+
 /// A value for each field that a structure lacks.
 fn fields_edit(
     given: Given<'_>,
@@ -195,7 +203,7 @@ pub fn edit_of(given: Given<'_>, repair: Repair<'_>) -> Result<Option<Edit>, All
         })),
         Repair::Through(through) => through_edit(given, through),
         Repair::Fields(byte, groups, parts) => fields_edit(given, byte, groups, parts),
-        Repair::Numbers(right) => counting(given, right),
+        Repair::Numbers(right, told) => counting(given, right, told),
         Repair::Part(whole, part) => Ok(Some(Edit {
             byte: whole.start.byte,
             length: whole.length,

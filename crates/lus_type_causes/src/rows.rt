@@ -14,6 +14,7 @@ opposite | - | A minus makes no opposite of a condition: write `not {first}`.
 chosen | - | `{first}` has type `{own}`, and so has each value of an `if` that defines it.
 values | variables on the left: {number}; values on the right: {count} | Only a call returns several values, one for each output. Write an equation for each variable.
 exchanged | - | Perhaps arguments {number} and {place} are exchanged.
+chained | - | Only the first `=` of an equation defines. The second one compares: to give two variables one value, write an equation for each.
 through | - | `{member}` is a field of `{first}`.
 truth | - | A `bool` is no number: the condition itself is its value.
 arguments | `{owner}` takes {number} arguments, found {count}
@@ -30,6 +31,7 @@ repeated | {count} branches have the label `{member}` | A `merge` has one branch
 nameless | `{wanted}` has no field `{member}`
 fieldless | a value of type `{wanted}` has no fields
 constructor | a value of type `{wanted}` has no fields | A constructor is written alone: `{member}`. To test for it, compare, as in `x = {member}`.
+copied | - | A structure gives each field exactly once, in any order. Perhaps the missing values are those of the structure that the others come from.
 completed | - | A structure gives each field exactly once, in any order. Choose the values of new ones: those here are placeholders.
 unset | missing field `{member}` | A structure gives each field exactly once, in any order.
 reset | the field `{member}` has {count} values | A structure gives each field exactly once, in any order.

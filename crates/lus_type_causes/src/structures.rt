@@ -294,14 +294,14 @@ pub fn note_on_pair(
     }
     let (operands, sign) = ((one.text.as_str(), other.text.as_str()), sign_in(given, left, right));
     let is_all = names.len() == count_of(groups);
-    let mut note = format!(in given.alloc; "`{sign}` isn't for whole structures, but for their fields")?;
+    let mut note = format!(in given.alloc; "`{sign}` takes no whole structures: write ")?;
     match defined_of(given, expr, kind) {
         Some(variable) if is_all => {
             push_definition(given, &mut note, variable, &names, operands, sign)?;
         }
         _ => {
-            note.push_str(": ")?;
-            push_pairs(&mut note, &names, operands, sign, ", ")?;
+            note.push_str("it between fields, as ")?;
+            push_pairs(&mut note, &names, operands, sign, " or ")?;
             note.push('.')?;
         }
     }
@@ -329,7 +329,7 @@ fn push_definition(
         },
         None => "",
     };
-    write!(note, ": write `{text} = {owner} {{")?;
+    write!(note, "`{text} = {owner} {{")?;
     for (place, name) in names.iter().enumerate() {
         let front = if place == 0 { " " } else { "; " };
         write!(note, "{front}{name} = {left}.{name} {sign} {right}.{name}")?;
