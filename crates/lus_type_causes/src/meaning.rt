@@ -222,7 +222,7 @@ fn used_beside<'t>(
 fn unused(given: Given<'_>, names: &[Name], used: &[&str]) -> Result<Option<String>, AllocError> {
     let mut found = None;
     for name in names {
-        if !used.contains(&name.text.as_str()) {
+        if !used.iter().any(|other| *other == name.text.as_str()) {
             if found.is_some() {
                 return Ok(None);
             }

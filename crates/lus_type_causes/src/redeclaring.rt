@@ -142,10 +142,8 @@ fn offered(
             finding.with_note(alloc, note.as_str())
         }
         Offer::Preferred => {
-            let (front, rest) = match before.strip_prefix("Perhaps ") {
-                Some(rest) => ("Or ", rest),
-                None => ("", before.as_str()),
-            };
+            let rest = before.strip_prefix("Perhaps ").unwrap_or(before.as_str());
+            let front = if rest.len() < before.len() { "Or " } else { "" };
             let note = format!(in alloc;
                 "Perhaps `{text}` is to be declared as `{kind}`. {front}{rest}"
             )?;
