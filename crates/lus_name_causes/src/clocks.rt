@@ -9,7 +9,7 @@ use lus_syntax::{Definition, Name, Node, Tree, TypeDeclaration};
 use std::alloc::{AllocError, Global};
 
 /// The type of a variable of a node.
-fn type_of<'t>(tree: &'t Tree, node: &'t Node, text: &str) -> Option<Plain<'t>> {
+pub fn type_of<'t>(tree: &'t Tree, node: &'t Node, text: &str) -> Option<Plain<'t>> {
     let variable = variable_named(node, text)?;
     resolved(tree, &variable.group.type_name, tree.types.len())
 }

@@ -1,9 +1,10 @@
 //! A name that stands twice.
 
 use crate::declared::{push_all, push_outside, push_variables};
+use crate::lefts::note_on_two_roles;
 use crate::said::{Said, told_of};
 use crate::unknown::Purpose;
-use lus_faults::Sought;
+use lus_faults::{Sought, variable_named};
 use lus_syntax::{Definition, Name, Node, Tree};
 use std::alloc::{AllocError, Global};
 
@@ -51,7 +52,17 @@ pub fn variable_twice(
 ) -> Result<Option<Said<'_>>, AllocError> {
     let mut names = Vec::new(alloc);
     push_variables(&mut names, node)?;
-    Ok(twice(sought, &names, "the variable `{}` is declared twice"))
+    let Some(said) = twice(sought, &names, "the variable `{}` is declared twice") else {
+        return Ok(None);
+    };
+    let first = variable_named(node, said.name.text.as_str());
+    Ok(Some(match (first, sought.variable(node)) {
+        (Some(first), Some(second)) => Said {
+            note: note_on_two_roles(first.role, second.role),
+            ..said
+        },
+        _ => said,
+    }))
 }
 
 /// What is said of a name at a place that two declarations of the source have, or two fields of a structure.

@@ -12,22 +12,23 @@ use lus_syntax::{Equation, Expr, Name, Node, Span, Tree, TypeName};
 use std::alloc::AllocError;
 
 /// What is said of the name of a node that is used as a value.
-pub fn called_node<'t>(tree: &'t Tree, found: Use<'t>) -> Option<Said<'t>> {
+pub fn called_node<'t>(
+    tree: &'t Tree,
+    node: Option<&'t Node>,
+    found: Use<'t>,
+) -> Option<Said<'t>> {
     if !matches!(found.purpose, Purpose::Value | Purpose::Variable) {
         return None;
     }
     let text = found.name.text.as_str();
-    let node = tree
+    let called = tree
         .nodes
         .iter()
-        .find(|node| node.name.text.as_str() == text)?;
+        .find(|other| other.name.text.as_str() == text)?;
     Some(Said {
-        beside: Some((node.name.span, "`{}` is declared here")),
-        ..told_of(
-            found.name,
-            "`{}` is a node, and no value",
-            "Call it, and give each of its results a variable, as in `y = {}(..);`.",
-        )
+        beside: Some((called.name.span, "`{}` is declared here")),
+        repair: Some(Repair::Call(node?, called)),
+        ..told_of(found.name, "`{}` is a node, and no value", "")
     })
 }
 
@@ -51,15 +52,17 @@ pub fn of_another<'t>(tree: &'t Tree, node: Option<&'t Node>, found: Use<'t>) ->
                 ),
                 Role::Output => (
                     "`{}` is an output of another node",
-                    "An output is known in its own node alone. Call that node, and give the result a variable.",
+                    "An output is known in its own node alone.",
                 ),
                 Role::Input => (
                     "`{}` is an input of another node",
                     "An input is known in its own node alone. Declare `{}` as an input of this node too.",
                 ),
             };
+            let is_output = variable.role == Role::Output && found.purpose == Purpose::Value;
             return Some(Said {
                 beside: Some((variable.name.span, label)),
+                repair: is_output.then_some(Repair::Call(here, other)),
                 ..told_of(found.name, found.purpose.sentence(), note)
             });
         }

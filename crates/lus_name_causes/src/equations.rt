@@ -1,6 +1,7 @@
 //! The left sides of equations.
 
 use crate::given::Given;
+use crate::lefts::{is_used, outside, undefined_for};
 use crate::repair::Repair;
 use crate::said::{Said, told_of};
 use crate::unknown::{Purpose, Use, unknown};
@@ -89,6 +90,27 @@ fn remembers(alloc: Global, expr: &Expr, text: &str) -> Result<bool, AllocError>
     Ok(is_remembered)
 }
 
+/// Whether an expression reckons with the value of a variable at the same instant.
+fn reckons_with(alloc: Global, expr: &Expr, text: &str) -> Result<bool, AllocError> {
+    for inner in &expressions_in(alloc, expr)? {
+        if let Expr::Binary(Infix::Compute(op), left, right) = *inner
+            && matches!(op.sign(), "+" | "-" | "*")
+            && (is_named(left, text) || is_named(right, text))
+        {
+            return Ok(true);
+        }
+    }
+    Ok(false)
+}
+
+/// Whether an expression is a name.
+fn is_named(expr: &Expr, text: &str) -> bool {
+    match expr {
+        Expr::Name(name) => name.text.as_str() == text,
+        _ => false,
+    }
+}
+
 /// The change of a source that makes one equation of two that follow one another: a first value, and what follows it, with the value of the
 /// instant before where that uses its own variable.
 pub fn joining(
@@ -145,7 +167,11 @@ fn twice<'t>(
             "A variable has exactly one equation. A result of a call that isn't meant gets a local of its own, as `_{}`.";
         return Ok(Some(Said { note, ..said }));
     }
-    if is_value(&first.right) && remembers(alloc, &second.right, left.text.as_str())? {
+    let text = left.text.as_str();
+    let is_remembered = is_value(&first.right) && remembers(alloc, &second.right, text)?;
+    let is_counted =
+        matches!(first.right, Expr::Number(_, _)) && reckons_with(alloc, &second.right, text)?;
+    if is_remembered || is_counted {
         let note =
             "Equations are not run in order, and each holds at every instant: one stands for both, in which the first value is before `->`.";
         let repair = Some(Repair::First(first, second));
@@ -161,9 +187,33 @@ fn twice<'t>(
     }))
 }
 
+/// What is said of an equation for an input: perhaps an output or a local is meant that has none.
+fn of_input<'t>(
+    alloc: Global,
+    tree: &'t Tree,
+    node: &'t Node,
+    said: Said<'t>,
+) -> Result<Option<Said<'t>>, AllocError> {
+    let Some(equation) = equation_of(node, said.name) else {
+        return Ok(Some(said));
+    };
+    let meant = undefined_for(alloc, tree, node, equation)?;
+    let note = if meant.is_some() {
+        "An input gets its value from the caller. Perhaps `{}` is meant, which has no equation yet."
+    } else {
+        said.note
+    };
+    Ok(Some(Said {
+        note,
+        meant,
+        ..said
+    }))
+}
+
 /// What is said of an equation for an input, or of a second one for a variable.
 fn needless<'t>(
     alloc: Global,
+    tree: &'t Tree,
     node: &'t Node,
     left: &'t Name,
 ) -> Result<Option<Said<'t>>, AllocError> {
@@ -172,11 +222,13 @@ fn needless<'t>(
     };
     if variable.role == Role::Input {
         let sentence = "`{}` is an input and cannot have an equation";
-        let note = "An input gets its value from the caller. Equations define outputs and locals.";
-        return Ok(Some(Said {
+        let note =
+            "An input gets its value from the caller. Give the new value a name of its own: declare a local before `let`, as `var new_{}: ..;`, write `new_{} = ..;`, and use that where the new value is meant.";
+        let said = Said {
             beside: Some((variable.name.span, "`{}` is declared as an input")),
             ..told_of(left, sentence, note)
-        }));
+        };
+        return of_input(alloc, tree, node, said);
     }
     twice(alloc, node, left)
 }
@@ -188,7 +240,10 @@ pub fn wrong_left<'t>(
     node: &'t Node,
     left: &'t Name,
 ) -> Result<Option<Said<'t>>, AllocError> {
-    if let Some(found) = needless(alloc, node, left)? {
+    if let Some(found) = needless(alloc, tree, node, left)? {
+        return Ok(Some(found));
+    }
+    if let Some(found) = outside(tree, node, left) {
         return Ok(Some(found));
     }
     let used = Use {
@@ -197,12 +252,38 @@ pub fn wrong_left<'t>(
         field: None,
     };
     match unknown(alloc, tree, Some(node), used)? {
-        Some(said) if said.meant.is_none() => Ok(Some(Said {
-            repair: Some(Repair::Declaration(node, left)),
-            ..said
-        })),
+        Some(said) if said.meant.is_none() => of_undeclared(alloc, tree, node, said),
         found => Ok(found),
     }
+}
+
+/// What is said of a name on the left that is declared nowhere: the variable without an equation that is meant by it, where nothing uses
+/// it, or else its declaration.
+fn of_undeclared<'t>(
+    alloc: Global,
+    tree: &'t Tree,
+    node: &'t Node,
+    said: Said<'t>,
+) -> Result<Option<Said<'t>>, AllocError> {
+    let declared = Said {
+        repair: Some(Repair::Declaration(node, said.name)),
+        ..said
+    };
+    let Some(equation) = equation_of(node, said.name) else {
+        return Ok(Some(declared));
+    };
+    if is_used(alloc, node, said.name.text.as_str())? {
+        return Ok(Some(declared));
+    }
+    Ok(Some(match undefined_for(alloc, tree, node, equation)? {
+        Some(meant) => Said {
+            note: "Perhaps `{}` is meant, which has no equation yet.",
+            meant: Some(meant),
+            repair: None,
+            ..said
+        },
+        None => declared,
+    }))
 }
 
 /// What is said of the variable at a place, an output or a local, which has no equation.

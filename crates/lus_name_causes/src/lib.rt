@@ -12,10 +12,14 @@ mod doubled;
 mod elsewhere;
 mod equations;
 mod given;
+mod hints;
+mod labels;
+mod lefts;
 mod looking;
 mod repair;
 mod respelling;
 mod said;
+mod types;
 mod unknown;
 
 pub use cause::name_cause;

@@ -9,9 +9,12 @@ use crate::declaring::{declaration_of, declaring};
 use crate::elsewhere::{negating, with_counts, with_two};
 use crate::equations::joining;
 use crate::given::Given;
+use crate::hints::{with_call, with_literal, with_product, with_undefined};
+use crate::labels::with_label;
 use crate::respelling::{Slip, respelt, slips_beside, unqualified};
+use crate::types::{types_edit, with_typed};
 use lus_faults::{Edit, Finding};
-use lus_syntax::{Equation, Fields, Name, Node, TypeDeclaration};
+use lus_syntax::{Equation, Fields, Literal, Name, Node, TypeDeclaration};
 use std::alloc::{AllocError, Global};
 
 /// A change of the text, in a node.
@@ -35,8 +38,20 @@ pub enum Repair<'t> {
     Negation(&'t Name),
     /// One equation in the place of two of one variable, where the second uses it.
     Two(&'t Equation, &'t Equation),
-    /// Nothing, and where an equation of the name stands in a comment.
+    /// Nothing, and where an equation of the name stands in a comment, or what it may be else.
     Comment(&'t Node),
+    /// The types that are meant by those of other languages, of all variables of a node.
+    Types(&'t Node),
+    /// A variable of a type in the place of the type, which has this place among the types.
+    Typed(&'t Node, usize, &'t TypeDeclaration),
+    /// Nothing, and the product that may be meant by a call.
+    Product(&'t Node),
+    /// The call of a node in the place of its name.
+    Call(&'t Node, &'t Node),
+    /// A constant's value in the place of its name.
+    Literal(&'t Literal),
+    /// The label that is meant in the place of one that there isn't.
+    Label(&'t Node),
     /// Constructors alone in the place of those behind the name of their type, in a whole equation.
     Qualifiers(&'t Node),
     /// A first value before `->` and what follows it in one equation, in the place of two.
@@ -149,11 +164,35 @@ pub fn with_repair<'t>(
         Repair::Counts(node) => with_counts(given, finding, node, name),
         Repair::Negation(variable) => Ok(finding.with_edit(negating(given, name, variable)?)),
         Repair::Two(first, second) => with_two(given, finding, name, first, second),
-        Repair::Comment(node) => with_comment(given, finding, node, name),
+        Repair::Comment(node) => {
+            let finding = with_undefined(given, finding, node, name)?;
+            with_comment(given, finding, node, name)
+        }
+        _ => with_hint(given, finding, name, repair),
+    }
+}
+
+/// A finding on a name with a change of the text, or with what is meant besides.
+fn with_hint<'t>(
+    given: Given<'t>,
+    finding: Finding,
+    name: &Name,
+    repair: Repair<'t>,
+) -> Result<Finding, AllocError> {
+    match repair {
+        Repair::Types(node) => Ok(finding.with_edit(types_edit(given, node)?)),
+        Repair::Typed(node, place, declaration) => {
+            with_typed(given, finding, name, node, (place, declaration))
+        }
+        Repair::Product(node) => with_product(given, finding, name, node),
+        Repair::Call(node, called) => with_call(given, finding, name, node, called),
+        Repair::Literal(value) => with_literal(given, finding, name, value),
+        Repair::Label(node) => with_label(given, finding, node, name),
         Repair::Qualifiers(node) => match unqualified(given, node, name)? {
             Some(edit) => Ok(finding.with_edit(Some(edit))),
             None => Ok(finding),
         },
         Repair::First(first, later) => Ok(finding.with_edit(joining(given, first, later)?)),
+        _ => Ok(finding),
     }
 }

@@ -7,8 +7,9 @@ use crate::declared::candidates;
 use crate::elsewhere::{called_node, negated, of_another};
 use crate::repair::Repair;
 use crate::said::{Said, told_of};
+use crate::types::{foreign, typed};
 use lus_faults::{declared_type, nearest, variable_named};
-use lus_syntax::{Name, Node, Tree};
+use lus_syntax::{Definition, Name, Node, Tree, TypeDeclaration};
 use std::alloc::{AllocError, Global};
 
 /// What a name is used as.
@@ -46,42 +47,6 @@ pub struct Use<'t> {
     pub field: Option<&'t Name>,
 }
 
-/// The type that is meant by what other languages call one, if there is one, and what is said of it.
-fn foreign_type(text: &str) -> Option<(Option<&'static str>, &'static str)> {
-    match text {
-        "boolean" | "_Bool" => Some((Some("bool"), "The Boolean type is `bool`.")),
-        "integer"
-        | "int8"
-        | "int16"
-        | "int32"
-        | "int64"
-        | "uint8"
-        | "uint16"
-        | "uint32"
-        | "uint64"
-        | "byte"
-        | "short"
-        | "long"
-        | "nat" => Some((
-            Some("int"),
-            "The only number type is `int`, an integer of 64 bits.",
-        )),
-        "float" | "double" | "float32" | "float64" => Some((
-            None,
-            "There are no floating-point numbers: use `int`, and count in hundredths.",
-        )),
-        "clock" => Some((
-            Some("bool"),
-            "A clock is a `bool` or an enumeration: a variable that other streams are sampled by.",
-        )),
-        "char" | "string" => Some((
-            None,
-            "There are no strings: use an enumeration, as in `type state = enum { Off, On };`.",
-        )),
-        _ => None,
-    }
-}
-
 /// What is said of a node's name that other languages have, or of any.
 fn note_on_node(text: &str) -> &'static str {
     match text {
@@ -94,10 +59,15 @@ fn note_on_node(text: &str) -> &'static str {
     }
 }
 
+/// Whether a label stands for all others in other languages.
+pub fn is_default(text: &str) -> bool {
+    matches!(text, "_" | "default" | "otherwise" | "others")
+}
+
 /// What is said of a constructor's name, which in other languages may stand for all others.
 fn note_on_constructor(text: &str) -> &'static str {
     match text {
-        "_" | "default" | "otherwise" | "others" =>
+        _ if is_default(text) =>
             "A `merge` has no branch for all other constructors: write one for each.",
         _ => "List it in an enumeration, as in `type state = enum { Off, On };`.",
     }
@@ -108,10 +78,19 @@ fn qualifiers_in(node: Option<&Node>) -> Option<Repair<'_>> {
     Some(Repair::Qualifiers(node?))
 }
 
+/// Whether a declaration is that of an enumeration with a constructor.
+fn constructs(declaration: &TypeDeclaration, text: &str) -> bool {
+    match &declaration.definition {
+        Definition::Enumeration(names) => names.iter().any(|name| name.text.as_str() == text),
+        _ => false,
+    }
+}
+
 /// What is said of a type's name before a constructor.
 fn qualifier<'t>(tree: &Tree, node: Option<&'t Node>, found: Use<'t>) -> Option<Said<'t>> {
     let field = found.field?;
-    if declared_type(tree, found.name.text.as_str()).is_none() {
+    let (_, declaration) = declared_type(tree, found.name.text.as_str())?;
+    if !constructs(declaration, field.text.as_str()) {
         return None;
     }
     let start = found.name.span.start.byte;
@@ -134,11 +113,10 @@ fn called_variable<'t>(node: Option<&'t Node>, found: Use<'t>) -> Option<Said<'t
     }
     let node = node?;
     let _variable = variable_named(node, found.name.text.as_str())?;
-    Some(told_of(
-        found.name,
-        "`{}` is a variable and cannot be called",
-        "A product is written with `*`, as in `k * (x + 1)`.",
-    ))
+    Some(Said {
+        repair: Some(Repair::Product(node)),
+        ..told_of(found.name, "`{}` is a variable and cannot be called", "")
+    })
 }
 
 /// What is said of a name that is spelled nearly as no other.
@@ -183,18 +161,50 @@ pub fn meant_by<'t>(
 
 /// What is said of a name by what it is elsewhere, whatever names are near.
 fn known_elsewhere<'t>(tree: &'t Tree, node: Option<&'t Node>, found: Use<'t>) -> Option<Said<'t>> {
-    if found.purpose == Purpose::Type
-        && let Some((meant, note)) = foreign_type(found.name.text.as_str())
-    {
-        return Some(Said {
-            meant,
-            ..told_of(found.name, found.purpose.sentence(), note)
-        });
-    }
-    qualifier(tree, node, found)
+    foreign(node, found)
+        .or(qualifier(tree, node, found))
+        .or(typed(tree, node, found))
+        .or(valued(tree, node, found))
         .or(called_structure(tree, node, found))
         .or(called_variable(node, found))
         .or(constructed(tree, node, found))
+}
+
+/// What is said of a name in the place of a constant's value: of another constant, or of a variable.
+fn valued<'t>(tree: &'t Tree, node: Option<&'t Node>, found: Use<'t>) -> Option<Said<'t>> {
+    if found.purpose != Purpose::Constructor || node.is_some() {
+        return None;
+    }
+    let text = found.name.text.as_str();
+    if let Some(constant) = tree
+        .constants
+        .iter()
+        .find(|constant| constant.name.text.as_str() == text)
+    {
+        return Some(Said {
+            beside: Some((constant.name.span, "`{}` is declared here")),
+            repair: Some(Repair::Literal(&constant.value)),
+            ..told_of(found.name, "`{}` is a constant, and a constant's value is none", "")
+        });
+    }
+    let other = tree.nodes.iter().find(|node| variable_named(node, text).is_some())?;
+    let variable = variable_named(other, text)?;
+    Some(Said {
+        beside: Some((variable.name.span, "`{}` is a variable here")),
+        ..told_of(
+            found.name,
+            "`{}` is a variable, and a constant's value is none",
+            "A constant is a number, `true`, `false` or a constructor, the same at every instant. What depends on a variable is a local of its node, with an equation.",
+        )
+    })
+}
+
+/// The change that mends a label, by those that its `merge` may have.
+fn of_labels<'t>(node: Option<&'t Node>, found: Use<'t>) -> Option<Repair<'t>> {
+    if found.purpose != Purpose::Constructor {
+        return None;
+    }
+    Some(Repair::Label(node?))
 }
 
 /// The change that mends a name that nothing declares and no name is near: of a function that other languages have.
@@ -218,6 +228,50 @@ fn of_spelling(node: Option<&Node>) -> Option<Repair<'_>> {
     Some(Repair::Respelling(node?))
 }
 
+/// The only one of some names that begins with a text.
+fn longer<'n>(text: &str, names: &[&'n str]) -> Option<&'n str> {
+    let mut found = None;
+    for name in names {
+        if name.starts_with(text) {
+            if found.is_some() {
+                return None;
+            }
+            found = Some(*name);
+        }
+    }
+    found
+}
+
+/// The fewest bytes of a name that may be the beginning of another one.
+const FEWEST_BYTES: usize = 3;
+
+/// What is said of a name that is none elsewhere, and near to no other: it may be the beginning of a longer one.
+fn of_nothing<'t>(
+    alloc: Global,
+    tree: &'t Tree,
+    node: Option<&'t Node>,
+    found: Use<'t>,
+) -> Result<Said<'t>, AllocError> {
+    let text = found.name.text.as_str();
+    let said = told_of(found.name, found.purpose.sentence(), note_on(found));
+    if text.len() >= FEWEST_BYTES && matches!(found.purpose, Purpose::Value | Purpose::Node) {
+        let names = candidates(alloc, tree, node, found.purpose)?;
+        if let Some(meant) = longer(text, &names) {
+            return Ok(Said {
+                note: "Did you mean `{}`?",
+                meant: Some(meant),
+                ..said
+            });
+        }
+    }
+    Ok(Said {
+        repair: of_built(node, found)
+            .or(of_counts(node, found))
+            .or(of_labels(node, found)),
+        ..said
+    })
+}
+
 /// What is said of a name that nothing declares, in a node or outside, with the nearest of the names that could be meant.
 pub fn unknown<'t>(
     alloc: Global,
@@ -237,11 +291,11 @@ pub fn unknown<'t>(
     let said = told_of(found.name, found.purpose.sentence(), note_on(found));
     let meant = meant_by(alloc, tree, node, found.name.text.as_str(), found.purpose)?;
     if meant.is_none() {
-        let known = called_node(tree, found).or(of_another(tree, node, found));
-        return Ok(Some(known.unwrap_or(Said {
-            repair: of_built(node, found).or(of_counts(node, found)),
-            ..said
-        })));
+        let known = called_node(tree, node, found).or(of_another(tree, node, found));
+        return match known {
+            Some(known) => Ok(Some(known)),
+            None => Ok(Some(of_nothing(alloc, tree, node, found)?)),
+        };
     }
     Ok(Some(Said {
         note: "Did you mean `{}`?",

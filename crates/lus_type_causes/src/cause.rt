@@ -48,7 +48,7 @@ fn in_node<'t>(given: Given<'t>, cause: Cause) -> Result<Option<Said<'t>>, Alloc
 fn said_by<'t>(given: Given<'t>, cause: Cause) -> Result<Option<Said<'t>>, AllocError> {
     match cause {
         Cause::Clash(Whole::Constant, wanted, found) => Ok(constant(given, wanted.kind, found)),
-        Cause::Clash(Whole::Equation, wanted, found) => Ok(value(given, wanted, found)),
+        Cause::Clash(Whole::Equation, wanted, found) => value(given, wanted, found),
         Cause::Count(Whole::Equation, wanted, found, _) => Ok(values(given, wanted, found)),
         Cause::Clock(variable) => Ok(test(given, variable)),
         _ => in_node(given, cause),
@@ -90,7 +90,7 @@ fn finding_at(
     match said.suspect {
         Some(suspect) if number < tree.nodes.len() => {
             let scope = enter(tabled, number);
-            Ok(Some(with_declaration(given, &scope, finding, suspect)?))
+            Ok(Some(with_declaration(given, &scope, finding, suspect, said.offer)?))
         }
         _ => Ok(Some(finding)),
     }

@@ -2,17 +2,21 @@
 
 use crate::given::Given;
 use crate::kinds::{
-    constructors, declaration, field_at, fields, group_at, has_name, is_written_alike, part_named,
+    constructors, declaration, field_at, fields, group_at, is_written_alike, part_named,
     variable_at,
 };
 use crate::listing::Listed;
+use crate::meaning::Misfit;
+use crate::notes::Meaning;
 use crate::operators::{advice, ends_at, main_span, operand, pair, sign, sign_between};
 use crate::repair::Repair;
 use crate::said::{Said, Words};
+use crate::sides::{branches, misfit_of};
+use crate::structures::sign_in;
 use lus_faults::{extent_of, start_of, variable_named};
 use lus_program::Kind;
 use lus_source::{Member, Whole};
-use lus_syntax::{Expr, Infix, Name, Node, Part, Place, Span, TypeName};
+use lus_syntax::{Expr, Infix, Name, Node, Part, Place, Prefix, Span, TypeName};
 
 /// Whether an expression is plainly of a type: a value that is written, or a variable that is declared so.
 fn is_of<'t>(given: Given<'t>, expr: &Expr, type_name: &TypeName) -> bool {
@@ -92,8 +96,14 @@ fn argument<'t>(
         declared: Some(input),
         ..Said::of("argument", name.span, words)
     };
+    let misfit = Misfit {
+        expr: value,
+        wanted: wanted.kind,
+        found,
+        is_enclosed: false,
+    };
     let exchanged = with_exchange(given, said, called, parts, wanted.number);
-    Some(exchanged.unwrap_or(said.suspecting(value, wanted.kind)))
+    Some(exchanged.unwrap_or(said.suspecting(value, wanted.kind).meaning(misfit)))
 }
 
 /// A field's value of another type than the field.
@@ -110,49 +120,60 @@ fn field<'t>(
         member: &field.text,
         ..given.words(wanted.kind, found)
     };
-    Some(Said {
-        first: Some((&part_named(parts, &field.text)?.value, found)),
+    let value = &part_named(parts, &field.text)?.value;
+    let said = Said {
+        first: Some((value, found)),
         declared: Some(field),
         ..Said::of("field", owner.span, words)
-    })
-}
-
-/// The branch that begins at a place.
-fn branch_at(parts: &[Part], place: Place) -> Option<&Expr> {
-    let part = parts
-        .iter()
-        .find(|part| start_of(&part.value).byte == place.byte)?;
-    Some(&part.value)
-}
-
-/// Two branches of two types, in the order of the text.
-fn branches<'t>(
-    given: Given<'t>,
-    span: Span,
-    parts: &'t [Part],
-    first: (Place, Kind),
-    second: (Place, Kind),
-) -> Option<Said<'t>> {
-    let (first, second) = if second.0.byte < first.0.byte {
-        (second, first)
-    } else {
-        (first, second)
     };
-    Some(Said {
-        first: Some((branch_at(parts, first.0)?, first.1)),
-        second: Some((branch_at(parts, second.0)?, second.1)),
-        ..Said::of("branches", span, given.words(first.1, second.1))
-    })
+    Some(said.meaning(Misfit {
+        expr: value,
+        wanted: wanted.kind,
+        found,
+        is_enclosed: false,
+    }))
 }
 
-/// What is said of a condition that a sum or a product has as an operand, with numbers in the place of all of its equation.
-fn counted_up<'t>(given: Given<'t>, said: Said<'t>, expr: &'t Expr) -> Said<'t> {
+/// What is said of a condition that a sum or a product has as an operand, with numbers in the place of all of its equation; or of one behind
+/// a minus.
+fn counted_up<'t>(
+    given: Given<'t>,
+    said: Said<'t>,
+    expr: &'t Expr,
+    operand: &'t Expr,
+) -> Said<'t> {
     match (expr, given.equation_with(expr)) {
         (Expr::Binary(Infix::Compute(_), _, _), Some(equation)) => Said {
-            repair: Some(Repair::Numbers(&equation.right)),
+            repair: Some(Repair::Numbers(&equation.right, operand)),
             ..said
         },
+        (Expr::Unary(Prefix::Negate, _, operand), _) => opposite(given, said, operand),
         _ => said,
+    }
+}
+
+/// What is said of a condition that is subtracted, or stands behind a minus: its opposite may be meant.
+fn opposite<'t>(given: Given<'t>, said: Said<'t>, operand: &'t Expr) -> Said<'t> {
+    Said {
+        advice: "opposite",
+        words: Words {
+            first: given.text_of(operand),
+            ..said.words
+        },
+        ..said
+    }
+}
+
+/// Whether an expression subtracts from one, where its equation defines a condition.
+fn is_toggled(given: Given<'_>, expr: &Expr) -> bool {
+    let Some(equation) = given.equation_with(expr) else {
+        return false;
+    };
+    match (expr, equation.left.as_slice()) {
+        (Expr::Binary(Infix::Compute(op), left, _), [name]) => op.sign() == "-"
+            && matches!(**left, Expr::Number(1, _))
+            && given.has_kind(name.text.as_str(), Kind::Bool),
+        _ => false,
     }
 }
 
@@ -165,11 +186,11 @@ fn wrong_operand<'t>(
 ) -> Option<Said<'t>> {
     let operand = operand(expr, wanted.number)?;
     let words = Words {
-        owner: sign(expr),
+        owner: sign_of(given, expr),
         ..given.words(wanted.kind, found)
     };
     let said = Said {
-        advice: advice(given.tree, wanted.kind, found),
+        advice: advice(wanted.kind, found),
         first: Some((operand, found)),
         ..Said::of("operand", main_span(given.source, expr), words)
     };
@@ -182,45 +203,30 @@ fn wrong_operand<'t>(
     }
     let said = said.suspecting(operand, wanted.kind);
     if wanted.kind == Kind::Int && found == Kind::Bool {
-        return Some(counted_up(given, said, expr));
+        return Some(if is_toggled(given, expr) {
+            opposite(given, said, operand)
+        } else {
+            counted_up(given, said, expr, operand)
+        });
     }
-    match operand {
-        Expr::Name(name) if wanted.kind == Kind::Bool && found == Kind::Int => Some(Said {
-            advice: "nonzero",
-            words: Words {
-                first: &name.text,
-                ..words
-            },
-            repair: Some(Repair::Compared(name.span, matches!(expr, Expr::Unary(_, _, _)))),
-            ..said
-        }),
-        _ => Some(said),
-    }
-}
-
-/// What is said, with a note where an operand is a constructor beside a value of another enumeration.
-fn with_constructor<'t>(
-    given: Given<'t>,
-    said: Said<'t>,
-    operand: &'t Expr,
-    kind: Kind,
-    other: Kind,
-) -> Option<Said<'t>> {
-    let Expr::Name(name) = operand else {
-        return None;
+    let misfit = Misfit {
+        expr: operand,
+        wanted: wanted.kind,
+        found,
+        is_enclosed: wanted.kind == Kind::Int || matches!(expr, Expr::Unary(_, _, _)),
     };
-    let first = constructors(given.tree, other).first()?;
-    has_name(constructors(given.tree, kind), &name.text).then_some(Said {
-        advice: "foreign",
-        words: Words {
-            member: &name.text,
-            own: given.name(kind),
-            other: given.name(other),
-            first: &first.text,
-            ..said.words
-        },
+    Some(Said {
+        meaning: Some(Meaning::Operand(expr, misfit)),
         ..said
     })
+}
+
+/// The sign of an operator: `/` where the source has that in the place of `div`.
+fn sign_of<'t>(given: Given<'t>, expr: &'t Expr) -> &'t str {
+    match pair(expr) {
+        Some((left, right)) if sign_in(given, left, right) == "/" => "/",
+        _ => sign(expr),
+    }
 }
 
 /// What is said, with a note on the values of an enumeration where one operand is of one and the other a number or a truth value.
@@ -285,10 +291,12 @@ fn alike<'t>(given: Given<'t>, expr: &'t Expr, one: Kind, other: Kind) -> Option
         ..Said::of("alike", main_span(given.source, expr), words)
     };
     let said = said.suspecting(right, one).suspecting(left, other);
+    if let Some(misfit) = misfit_of(given, expr, (left, one), (right, other)) {
+        let chosen = with_choice(given, said, expr).unwrap_or(said);
+        return Some(chosen.meaning(misfit));
+    }
     Some(
-        with_constructor(given, said, left, one, other)
-            .or(with_constructor(given, said, right, other, one))
-            .or(with_values(given, said, left, one, other))
+        with_values(given, said, left, one, other)
             .or(with_values(given, said, right, other, one))
             .or(with_choice(given, said, expr))
             .unwrap_or(said),
@@ -328,9 +336,9 @@ pub fn clash<'t>(
             _ => None,
         },
         Whole::Merge(first, other) => match expr {
-            Expr::Merge(span, _, parts) => branches(
+            Expr::Merge(_, _, parts) => branches(
                 given,
-                *span,
+                expr,
                 parts,
                 (first, wanted.kind),
                 (other, found),

@@ -1,14 +1,18 @@
 //! Constants, tests of clocks, and what equations give.
 
 use crate::given::Given;
-use crate::kinds::{constructors, variable_at};
+use crate::kinds::{constructors, group_at, is_written_alike, variable_at};
 use crate::listing::Listed;
+use crate::meaning::{Misfit, constructor_of, values_of};
+use crate::notes::Meaning;
+use crate::redeclaring::Offer;
 use crate::repair::Repair;
 use crate::said::{Said, Words};
 use lus_faults::{extent_of, start_of, variable_named};
 use lus_program::Kind;
 use lus_source::Member;
-use lus_syntax::{Equation, Expr, Literal, Name, Node, Span};
+use lus_syntax::{Equation, Expr, Infix, Literal, Name, Node, Span};
+use std::alloc::AllocError;
 
 /// Where a constant's value stands.
 fn literal_span(value: &Literal) -> Span {
@@ -88,19 +92,93 @@ fn numbered(expr: &Expr) -> Option<&Expr> {
     }
 }
 
-/// What the note lists on a number or a truth value in the place of one of an enumeration.
-fn listed_of<'t>(given: Given<'t>, wanted: Kind, found: Kind) -> Option<Listed<'t>> {
-    let names = constructors(given.tree, wanted);
-    (!names.is_empty() && matches!(found, Kind::Int | Kind::Bool)).then_some(Listed::Constructors(
-        given.name(wanted),
-        names,
-        None,
-    ))
+/// Whether a value tells its type by itself: by its operator, or as a constructor or a number that stands for no other value.
+fn tells(given: Given<'_>, misfit: Misfit<'_>) -> bool {
+    match (misfit.wanted, misfit.found, misfit.expr) {
+        (Kind::Int, Kind::Bool, Expr::Truth(_, _) | Expr::Binary(_, _, _) | Expr::Unary(_, _, _)) => true,
+        (Kind::Bool, Kind::Int, Expr::Number(number, _)) => *number > 1,
+        (Kind::Bool, Kind::Int, Expr::Binary(_, _, _) | Expr::Unary(_, _, _)) => true,
+        (Kind::Int, Kind::Enum(_), _) => true,
+        (Kind::Bool, Kind::Enum(_), expr) => !given.is_right(expr)
+            && constructor_of(given, expr, misfit.found).is_some(),
+        _ => false,
+    }
+}
+
+/// Whether the declared type of a variable is changed rather than the value that it is given.
+fn offer_of(given: Given<'_>, misfit: Misfit<'_>) -> Result<Offer, AllocError> {
+    let values = values_of(given, misfit)?;
+    let is_told = values.iter().any(|value| tells(given, *value));
+    Ok(if is_told { Offer::Preferred } else { Offer::Told })
+}
+
+/// The number of another variable on the left with which that of a number can be exchanged: each is of the type of the other's output.
+fn exchanged(node: &Node, called: &Node, left: &[Name], number: usize) -> Option<usize> {
+    let own = variable_named(node, &left.get(number)?.text)?;
+    let wanted = group_at(&called.outputs, number)?;
+    for (other, name) in left.iter().enumerate() {
+        if other != number
+            && let Some(variable) = variable_named(node, &name.text)
+            && let Some(output) = group_at(&called.outputs, other)
+            && is_written_alike(&variable.group.type_name, &wanted.type_name)
+            && is_written_alike(&own.group.type_name, &output.type_name)
+        {
+            return Some(other);
+        }
+    }
+    None
+}
+
+/// What is said of a variable that takes an output of another type: perhaps it is exchanged with another one.
+fn taking<'t>(
+    given: Given<'t>,
+    said: Said<'t>,
+    equation: &'t Equation,
+    number: usize,
+) -> Said<'t> {
+    let (Some(node), Expr::Call(name, _)) = (given.node, &equation.right) else {
+        return said;
+    };
+    let Some(called) = given.called(name) else {
+        return said;
+    };
+    let left = equation.left.as_slice();
+    let listed = Some(Listed::Outputs(called, left));
+    let Some(other) = exchanged(node, called, left, number) else {
+        return Said { listed, ..said };
+    };
+    let (first, second) = (number.min(other), number.max(other));
+    match (left.get(first), left.get(second)) {
+        (Some(first), Some(second)) => Said {
+            listed,
+            repair: Some(Repair::Exchange(first.span, second.span)),
+            ..said
+        },
+        _ => Said { listed, ..said },
+    }
+}
+
+/// Whether the right side of an equation compares a variable that no equation defines, as in `a = b = 1`.
+fn is_chained(given: Given<'_>, equation: &Equation) -> bool {
+    let Expr::Binary(Infix::Compute(op), left, _) = &equation.right else {
+        return false;
+    };
+    match &**left {
+        Expr::Name(name) => op.sign() == "="
+            && given.is_variable(name.text.as_str())
+            && !given.is_input(name.text.as_str())
+            && !given.is_defined(name.text.as_str()),
+        _ => false,
+    }
 }
 
 /// A right side that has another type than its variable.
-pub fn value<'t>(given: Given<'t>, wanted: Member, found: Kind) -> Option<Said<'t>> {
-    let equation = equation_at(given)?;
+fn value_of<'t>(
+    given: Given<'t>,
+    equation: &'t Equation,
+    wanted: Member,
+    found: Kind,
+) -> Option<Said<'t>> {
     let left = equation.left.get(wanted.number)?;
     let words = Words {
         member: &left.text,
@@ -110,9 +188,15 @@ pub fn value<'t>(given: Given<'t>, wanted: Member, found: Kind) -> Option<Said<'
     let said = Said {
         declared: Some(variable_named(given.node?, &left.text)?.name),
         suspect: Some((left, found)),
-        listed: listed_of(given, wanted.kind, found),
         ..Said::of("value", span, words)
     };
+    if is_chained(given, equation) {
+        return Some(Said {
+            advice: "chained",
+            suspect: None,
+            ..said
+        });
+    }
     match numbered(&equation.right) {
         Some(condition) if wanted.kind == Kind::Bool => Some(Said {
             advice: "truth",
@@ -120,7 +204,34 @@ pub fn value<'t>(given: Given<'t>, wanted: Member, found: Kind) -> Option<Said<'
             suspect: None,
             ..said
         }),
-        _ => Some(said),
+        _ if equation.left.len() > 1 => Some(taking(given, said, equation, wanted.number)),
+        _ => Some(said.meaning(Misfit {
+            expr: &equation.right,
+            wanted: wanted.kind,
+            found,
+            is_enclosed: false,
+        })),
+    }
+}
+
+/// A right side that has another type than its variable, with what is meant by it.
+pub fn value<'t>(
+    given: Given<'t>,
+    wanted: Member,
+    found: Kind,
+) -> Result<Option<Said<'t>>, AllocError> {
+    let Some(equation) = equation_at(given) else {
+        return Ok(None);
+    };
+    match value_of(given, equation, wanted, found) {
+        Some(said) => match said.meaning {
+            Some(Meaning::Value(misfit)) => {
+                let offer = offer_of(given, misfit)?;
+                Ok(Some(Said { offer, ..said }))
+            }
+            _ => Ok(Some(said)),
+        },
+        None => Ok(None),
     }
 }
 

@@ -1,11 +1,11 @@
 //! Where a fault of types is.
 
-use crate::kinds::name_of;
+use crate::kinds::{is_kind, name_of, push_of_kind};
 use crate::said::Words;
-use lus_faults::start_of;
+use lus_faults::{Role, extent_of, slice_of, start_of, variable_named};
 use lus_program::Kind;
 use lus_syntax::{Equation, Expr, Name, Node, Place, Tree};
-use std::alloc::Global;
+use std::alloc::{AllocError, Global};
 
 /// The source, the node and the place of a fault of types. A constant may stand where there is no node.
 #[derive(Clone, Copy)]
@@ -44,6 +44,79 @@ impl<'t> Given<'t> {
             }
         }
         found
+    }
+
+    /// The text of an expression.
+    pub fn text_of(self, expr: &Expr) -> &'t str {
+        slice_of(self.source, extent_of(self.source, expr))
+    }
+
+    /// Whether an expression is the whole right side of an equation.
+    pub fn is_right(self, expr: &Expr) -> bool {
+        match self.equation_with(expr) {
+            Some(equation) => {
+                let whole = extent_of(self.source, &equation.right);
+                let own = extent_of(self.source, expr);
+                whole.start.byte == own.start.byte && whole.length == own.length
+            }
+            None => false,
+        }
+    }
+
+    /// Whether a name is that of a variable of the node.
+    pub fn is_variable(self, text: &str) -> bool {
+        match self.node {
+            Some(node) => variable_named(node, text).is_some(),
+            None => false,
+        }
+    }
+
+    /// Whether a name is that of an input of the node.
+    pub fn is_input(self, text: &str) -> bool {
+        match self.node {
+            Some(node) => match variable_named(node, text) {
+                Some(variable) => variable.role == Role::Input,
+                None => false,
+            },
+            None => false,
+        }
+    }
+
+    /// Whether a name stands on the left of an equation of the node, and not of one that was made for its declaration.
+    pub fn is_defined(self, text: &str) -> bool {
+        let declared = match self.node {
+            Some(node) => match variable_named(node, text) {
+                Some(variable) => variable.name.span.start.byte,
+                None => 0,
+            },
+            None => 0,
+        };
+        self.equations().iter().any(|equation| equation
+            .left
+            .iter()
+            .any(|name| name.text.as_str() == text && name.span.start.byte != declared))
+    }
+
+    /// Whether a variable of the node has a type.
+    pub fn has_kind(self, text: &str, kind: Kind) -> bool {
+        let Some(node) = self.node else {
+            return false;
+        };
+        match variable_named(node, text) {
+            Some(variable) => is_kind(self.tree, &variable.group.type_name, kind),
+            None => false,
+        }
+    }
+
+    /// The names of the variables of the node that have a type.
+    pub fn variables_of_kind(self, kind: Kind) -> Result<Vec<&'t str>, AllocError> {
+        let mut names = Vec::new(self.alloc);
+        if let Some(node) = self.node {
+            push_of_kind(&mut names, self.tree, &node.inputs, kind)?;
+            push_of_kind(&mut names, self.tree, &node.outputs, kind)?;
+            push_of_kind(&mut names, self.tree, &node.locals, kind)?;
+        }
+        Ok(names)
     }
 
     /// The name of a type.

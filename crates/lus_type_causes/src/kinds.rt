@@ -1,10 +1,11 @@
 //! Types as a source declares them.
 
-use lus_faults::{declared_type, resolved, value_of};
+use lus_faults::{Plain, declared_type, resolved, value_of};
 use lus_program::Kind;
 use lus_syntax::{
     Definition, Fields, Group, Label, Lead, Name, Part, Tree, TypeDeclaration, TypeName,
 };
+use std::alloc::{AllocError, Global};
 
 /// The declaration of a type; none of `bool` and `int`.
 pub fn declaration(tree: &Tree, kind: Kind) -> Option<&TypeDeclaration> {
@@ -42,6 +43,17 @@ pub fn fields(tree: &Tree, kind: Kind) -> &[Fields] {
             _ => &[],
         },
         None => &[],
+    }
+}
+
+/// The fields of a structure of a type's name; no other type has any.
+pub fn fields_of_type<'t>(tree: &'t Tree, type_name: &'t TypeName) -> &'t [Fields] {
+    match resolved(tree, type_name, tree.types.len()) {
+        Some(Plain::Declared(_, declaration)) => match &declaration.definition {
+            Definition::Structure(groups) => groups.as_slice(),
+            _ => &[],
+        },
+        _ => &[],
     }
 }
 
@@ -90,6 +102,69 @@ pub fn is_written_alike(one: &TypeName, other: &TypeName) -> bool {
         }
         _ => false,
     }
+}
+
+/// Whether a type's name stands for a type.
+pub fn is_kind(tree: &Tree, type_name: &TypeName, kind: Kind) -> bool {
+    match (resolved(tree, type_name, tree.types.len()), kind) {
+        (Some(Plain::Bool), Kind::Bool) | (Some(Plain::Int), Kind::Int) => true,
+        (Some(Plain::Declared(place, _)), Kind::Enum(own) | Kind::Struct(own)) => {
+            place == own as usize
+        }
+        _ => false,
+    }
+}
+
+/// The names of the fields of a type that a structure has.
+pub fn fields_of_kind<'t>(
+    alloc: Global,
+    tree: &'t Tree,
+    groups: &'t [Fields],
+    kind: Kind,
+) -> Result<Vec<&'t str>, AllocError> {
+    let mut names = Vec::new(alloc);
+    for group in groups {
+        if is_kind(tree, &group.type_name, kind) {
+            for name in &group.names {
+                names.push(name.text.as_str())?;
+            }
+        }
+    }
+    Ok(names)
+}
+
+/// The names of the variables of a type among groups.
+pub fn push_of_kind<'t>(
+    names: &mut Vec<&'t str>,
+    tree: &'t Tree,
+    groups: &'t [Group],
+    kind: Kind,
+) -> Result<(), AllocError> {
+    for group in groups {
+        if is_kind(tree, &group.type_name, kind) {
+            for name in &group.names {
+                names.push(name.text.as_str())?;
+            }
+        }
+    }
+    Ok(())
+}
+
+/// The place of a name among some.
+pub fn place_of(names: &[Name], text: &str) -> Option<usize> {
+    names.iter().position(|name| name.text.as_str() == text)
+}
+
+/// The enumeration that has a constructor.
+pub fn enumeration_with<'t>(tree: &'t Tree, text: &str) -> Option<&'t TypeDeclaration> {
+    for declaration in &tree.types {
+        if let Definition::Enumeration(names) = &declaration.definition
+            && has_name(names, text)
+        {
+            return Some(declaration);
+        }
+    }
+    None
 }
 
 /// The field of a structure that is a structure itself with a field of this name, if one is.

@@ -3,16 +3,19 @@
 use crate::given::Given;
 use crate::repair::{Repair, push_names, variables_of};
 use crate::said::Said;
-use lus_faults::{Edit, Finding, bytes_at, extent_of, slice_of, start_of, variable_named};
-use lus_syntax::{Expr, Group, Infix, Name, Node, Part, Prefix, TypeName};
+use lus_faults::{
+    Edit, Finding, bytes_at, expressions_in, extent_of, slice_of, start_of, variable_named,
+};
+use lus_syntax::{Expr, Group, Infix, Name, Node, Part, Prefix, Span, TypeName};
 use std::alloc::AllocError;
 
-/// What a note lists: the inputs that arguments of a call are for; variables for the results of a call; or the constructors of a type, one
-/// of which is written, or compared with a value by a sign.
+/// What a note lists: the inputs that arguments of a call are for; variables for the results of a call; which outputs variables take; or the
+/// constructors of a type, one of which is compared with a value by a sign.
 #[derive(Clone, Copy)]
 pub enum Listed<'t> {
     Inputs(&'t Node, &'t [Part]),
     Results(&'t Node, &'t Expr),
+    Outputs(&'t Node, &'t [Name]),
     Constructors(&'t str, &'t [Name], Option<(&'t Expr, &'static str)>),
 }
 
@@ -27,13 +30,20 @@ fn note_on_inputs(given: Given<'_>, node: &Node, parts: &[Part]) -> Result<Strin
     let mut note = format!(in given.alloc; "`{owner}` has the {word} ")?;
     push_names(&mut note, &names)?;
     for (place, (name, part)) in names.iter().zip(parts).enumerate() {
-        let front = if place == 0 {
-            ", in this order. Here "
-        } else {
-            ", "
+        let front = match (place, names.len()) {
+            (0, 1) => ". Here ",
+            (0, _) => ", in this order. Here ",
+            _ => ", ",
         };
         let text = slice_of(given.source, extent_of(given.source, &part.value));
         write!(note, "{front}`{name}` is `{text}`")?;
+    }
+    for name in names.get(parts.len()..).unwrap_or(&[]) {
+        write!(note, ", and nothing stands for `{name}`")?;
+    }
+    for part in parts.get(names.len()..).unwrap_or(&[]) {
+        let text = slice_of(given.source, extent_of(given.source, &part.value));
+        write!(note, ", and nothing takes `{text}`")?;
     }
     note.push('.')?;
     Ok(note)
@@ -83,6 +93,28 @@ fn push_locals(
     Ok(())
 }
 
+/// Whether a node has an output.
+fn has_output(node: &Node, text: &str) -> bool {
+    node.outputs
+        .iter()
+        .any(|group| group.names.iter().any(|name| name.text.as_str() == text))
+}
+
+/// The field that is taken of an expression.
+fn taken_of<'t>(given: Given<'t>, of: &Expr) -> Result<Option<&'t Name>, AllocError> {
+    for equation in given.equations() {
+        for expr in &expressions_in(given.alloc, &equation.right)? {
+            if let Expr::Field(operand, name) = *expr
+                && start_of(operand).byte == start_of(of).byte
+                && matches!(**operand, Expr::Call(_, _))
+            {
+                return Ok(Some(name));
+            }
+        }
+    }
+    Ok(None)
+}
+
 /// The note on a call of several results in an expression: how each gets a variable.
 fn note_on_results(given: Given<'_>, node: &Node, call: &Expr) -> Result<String, AllocError> {
     let owner = node.name.text.as_str();
@@ -99,7 +131,15 @@ fn note_on_results(given: Given<'_>, node: &Node, call: &Expr) -> Result<String,
         }
         push_free(given, &mut note, owner, name)?;
     }
-    write!(note, ") = {text};`, and use here the one that is meant.")?;
+    write!(note, ") = {text};`, and use here ")?;
+    match taken_of(given, call)? {
+        Some(field) if has_output(node, field.text.as_str()) => {
+            note.push('`')?;
+            push_free(given, &mut note, owner, field.text.as_str())?;
+            note.push_str("`.")?;
+        }
+        _ => note.push_str("the one that is meant.")?,
+    }
     Ok(note)
 }
 
@@ -132,11 +172,31 @@ fn note_on_values(
     Ok(note)
 }
 
+/// The note on variables that take the outputs of a call: which output each is for.
+fn note_on_taking(given: Given<'_>, node: &Node, left: &[Name]) -> Result<String, AllocError> {
+    let mut note = String::from_str(
+        given.alloc,
+        "The variables take the outputs in their order: ",
+    )?;
+    for (place, (name, output)) in left
+        .iter()
+        .zip(variables_of(given.alloc, &node.outputs)?.iter())
+        .enumerate()
+    {
+        let comma = if place == 0 { "" } else { ", " };
+        let text = name.text.as_str();
+        write!(note, "{comma}`{text}` takes `{output}`")?;
+    }
+    note.push('.')?;
+    Ok(note)
+}
+
 /// The note that lists something.
 pub fn note_on_listed(given: Given<'_>, listed: Listed<'_>) -> Result<String, AllocError> {
     match listed {
         Listed::Inputs(node, parts) => note_on_inputs(given, node, parts),
         Listed::Results(node, call) => note_on_results(given, node, call),
+        Listed::Outputs(node, left) => note_on_taking(given, node, left),
         Listed::Constructors(of, constructors, compared) => {
             note_on_values(given, of, constructors, compared)
         }
@@ -144,13 +204,13 @@ pub fn note_on_listed(given: Given<'_>, listed: Listed<'_>) -> Result<String, Al
 }
 
 /// Whether an operator takes numbers and gives one.
-fn reckons(sign: &str) -> bool {
+pub fn reckons(sign: &str) -> bool {
     matches!(sign, "+" | "-" | "*" | "/" | "div" | "mod")
 }
 
 /// An expression without the parentheses round it.
 #[cycle(bared)]
-fn bare(expr: &Expr) -> &Expr {
+pub fn bare(expr: &Expr) -> &Expr {
     match expr {
         Expr::Parentheses(_, inner) => bare(inner),
         _ => expr,
@@ -168,7 +228,7 @@ fn is_condition(given: Given<'_>, expr: &Expr) -> bool {
             None => false,
         },
         Expr::Binary(Infix::Compute(op), _, _) => !reckons(op.sign()),
-        Expr::Unary(Prefix::Not, _, _) => true,
+        Expr::Unary(Prefix::Not, _, _) | Expr::Truth(_, _) | Expr::Variadic(_, _, _) => true,
         _ => false,
     }
 }
@@ -179,12 +239,15 @@ fn push_operand<'t>(
     given: Given<'t>,
     found: &mut Vec<&'t Expr>,
     expr: &'t Expr,
+    told: Span,
 ) -> Result<(), AllocError> {
-    if is_condition(given, expr) {
+    let own = extent_of(given.source, expr);
+    let is_told = own.start.byte == told.start.byte && own.length == told.length;
+    if is_told || is_condition(given, expr) {
         found.push(expr)?;
         return Ok(());
     }
-    push_conditions(given, found, expr)
+    push_conditions(given, found, expr, told)
 }
 
 /// Adds the conditions among the operands of the sums and products of an expression.
@@ -193,31 +256,48 @@ fn push_conditions<'t>(
     given: Given<'t>,
     found: &mut Vec<&'t Expr>,
     expr: &'t Expr,
+    told: Span,
 ) -> Result<(), AllocError> {
     match expr {
-        Expr::Binary(Infix::Compute(op), left, right) if reckons(op.sign()) => {
-            push_operand(given, found, left)?;
-            push_operand(given, found, right)
+        Expr::Binary(Infix::Compute(op), left, right)
+            if reckons(op.sign()) || matches!(op.sign(), "<" | "<=" | ">" | ">=") =>
+        {
+            push_operand(given, found, left, told)?;
+            push_operand(given, found, right, told)
         }
-        Expr::Binary(Infix::Arrow | Infix::Fby, left, right) | Expr::If(_, _, left, right) => {
-            push_conditions(given, found, left)?;
-            push_conditions(given, found, right)
+        Expr::If(_, condition, left, right) => {
+            push_conditions(given, found, condition, told)?;
+            push_conditions(given, found, left, told)?;
+            push_conditions(given, found, right, told)
         }
-        Expr::Parentheses(_, inner) => push_conditions(given, found, inner),
+        Expr::Unary(Prefix::Not, _, inner) => push_conditions(given, found, inner, told),
+        Expr::Binary(_, left, right) => {
+            push_conditions(given, found, left, told)?;
+            push_conditions(given, found, right, told)
+        }
+        Expr::Parentheses(_, inner) => push_conditions(given, found, inner, told),
         _ => Ok(()),
     }
 }
 
 /// The conditions among the operands of the sums and products of a right side, in the order of the text.
-fn conditions_in<'t>(given: Given<'t>, right: &'t Expr) -> Result<Vec<&'t Expr>, AllocError> {
+fn conditions_in<'t>(
+    given: Given<'t>,
+    right: &'t Expr,
+    told: &Expr,
+) -> Result<Vec<&'t Expr>, AllocError> {
     let mut found = Vec::new(given.alloc);
-    push_conditions(given, &mut found, right)?;
+    push_conditions(given, &mut found, right, extent_of(given.source, told))?;
     Ok(found)
 }
 
 /// The change by which each condition among the operands of sums and products becomes a number.
-pub fn counting(given: Given<'_>, right: &Expr) -> Result<Option<Edit>, AllocError> {
-    let conditions = conditions_in(given, right)?;
+pub fn counting(
+    given: Given<'_>,
+    right: &Expr,
+    told: &Expr,
+) -> Result<Option<Edit>, AllocError> {
+    let conditions = conditions_in(given, right, told)?;
     let Some(first) = conditions.first() else {
         return Ok(None);
     };
@@ -228,7 +308,11 @@ pub fn counting(given: Given<'_>, right: &Expr) -> Result<Option<Edit>, AllocErr
         let span = extent_of(given.source, condition);
         let inner = slice_of(given.source, extent_of(given.source, bare(condition)));
         text.push_str(bytes_at(given.source, end, span.start.byte).unwrap_or(""))?;
-        write!(text, "(if {inner} then 1 else 0)")?;
+        match bare(condition) {
+            Expr::Truth(true, _) => text.push('1')?,
+            Expr::Truth(false, _) => text.push('0')?,
+            _ => write!(text, "(if {inner} then 1 else 0)")?,
+        }
         end = span.end().byte;
     }
     Ok(Some(Edit {
@@ -244,10 +328,10 @@ pub fn push_further(
     said: &Said<'_>,
     finding: &mut Finding,
 ) -> Result<(), AllocError> {
-    let (Some(Repair::Numbers(right)), Some((told, _))) = (said.repair, said.first) else {
+    let Some(Repair::Numbers(right, told)) = said.repair else {
         return Ok(());
     };
-    for condition in &conditions_in(given, right)? {
+    for condition in &conditions_in(given, right, told)? {
         let span = extent_of(given.source, condition);
         if span.start.byte != start_of(told).byte {
             let label = String::from_str(given.alloc, "this has type `bool` too")?;

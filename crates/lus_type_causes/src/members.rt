@@ -6,8 +6,9 @@ use crate::kinds::{
     label_at, label_text, part_named, value, value_of_type, variable_at,
 };
 use crate::listing::Listed;
+use crate::notes::Meaning;
 use crate::reaching::Through;
-use crate::repair::{Lacking, Repair};
+use crate::repair::{Lacking, Repair, is_copied};
 use crate::said::{Said, Words};
 use lus_faults::{extent_of, label_span};
 use lus_program::Kind;
@@ -76,6 +77,10 @@ pub fn arguments<'t>(
     Some(Said {
         declared: if lacking.is_some() { input } else { own },
         listed: lacking.is_none().then_some(Listed::Inputs(node, parts)),
+        meaning: match (lacking, input) {
+            (Some(member), Some(input)) => Some(Meaning::Argument(parts, input, member)),
+            _ => None,
+        },
         ..Said::of(row, name.span, words)
     })
 }
@@ -101,7 +106,12 @@ pub fn results<'t>(
 }
 
 /// A name that is no field of a type.
-pub fn unknown_field<'t>(given: Given<'t>, kind: Kind, name: &'t Name) -> Option<Said<'t>> {
+pub fn unknown_field<'t>(
+    given: Given<'t>,
+    expr: &'t Expr,
+    kind: Kind,
+    name: &'t Name,
+) -> Option<Said<'t>> {
     let words = Words {
         member: &name.text,
         ..given.words(kind, kind)
@@ -126,16 +136,17 @@ pub fn unknown_field<'t>(given: Given<'t>, kind: Kind, name: &'t Name) -> Option
     if !groups.is_empty() {
         return Some(Said {
             declared: Some(&declaration(given.tree, kind)?.name),
-            repair: Some(Repair::Field(name, groups)),
+            meaning: Some(Meaning::Field(expr, name, kind)),
             ..Said::of("nameless", name.span, words)
         });
     }
-    let row = if constructors(given.tree, kind).is_empty() {
-        "fieldless"
-    } else {
-        "constructor"
-    };
-    Some(Said::of(row, name.span, words))
+    if constructors(given.tree, kind).is_empty() {
+        return Some(Said {
+            meaning: Some(Meaning::Field(expr, name, kind)),
+            ..Said::of("fieldless", name.span, words)
+        });
+    }
+    Some(Said::of("constructor", name.span, words))
 }
 
 /// Whether values are known for all fields that a structure lacks.
@@ -150,16 +161,18 @@ fn may_be_completed(tree: &Tree, groups: &[Fields], parts: &[Part]) -> bool {
 /// What an expression names that its type hasn't, if it is at the fault's place: a field, a structure, or a label.
 pub fn unknown_member<'t>(given: Given<'t>, expr: &'t Expr, kind: Kind) -> Option<Said<'t>> {
     match expr {
-        Expr::Field(_, name) if given.is_at(name.span.start) => unknown_field(given, kind, name),
+        Expr::Field(_, name) if given.is_at(name.span.start) => {
+            unknown_field(given, expr, kind, name)
+        }
         Expr::Structure(owner, _) if given.is_at(owner.span.start) => {
-            unknown_field(given, kind, owner)
+            unknown_field(given, expr, kind, owner)
         }
         Expr::Structure(_, parts) => {
             for part in parts {
                 if let Lead::Field(name) = &part.lead
                     && given.is_at(name.span.start)
                 {
-                    return unknown_field(given, kind, name);
+                    return unknown_field(given, expr, kind, name);
                 }
             }
             None
@@ -175,6 +188,7 @@ pub fn unknown_member<'t>(given: Given<'t>, expr: &'t Expr, kind: Kind) -> Optio
                     };
                     return Some(Said {
                         variable: Some(variable),
+                        meaning: Some(Meaning::Label(variable, parts, label, kind)),
                         ..Said::of("label", label_span(label), words)
                     });
                 }
@@ -228,13 +242,18 @@ fn counted_field<'t>(
     };
     let said = Said {
         declared: Some(field),
+        meaning: (count > 0).then_some(Meaning::Twice(parts, &field.text, of.kind)),
         ..Said::of(row, owner.span, words)
     };
     match parts.last() {
         Some(last) if count == 0 && may_be_completed(given.tree, groups, parts) => {
             let end = extent_of(given.source, &last.value).end().byte;
             Some(Said {
-                advice: "completed",
+                advice: if is_copied(given, groups, parts) {
+                    "copied"
+                } else {
+                    "completed"
+                },
                 repair: Some(Repair::Fields(end, groups, parts)),
                 ..said
             })
@@ -258,7 +277,13 @@ fn counted_branch<'t>(
         "repeated"
     };
     let said = Said::of(row, span, words);
-    if words.count > 0 || lacking.value.is_empty() {
+    if words.count > 0 {
+        return Said {
+            meaning: Some(Meaning::Twice(lacking.parts, words.member, of)),
+            ..said
+        };
+    }
+    if lacking.value.is_empty() {
         return said;
     }
     let (advice, own) = row_on_branch(given, span, of, words.member);

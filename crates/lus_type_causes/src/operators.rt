@@ -1,10 +1,9 @@
 //! Operators and their operands.
 
-use crate::kinds::constructors;
 use crate::repair::Repair;
 use lus_faults::{bytes_at, extent_of, start_of};
 use lus_program::Kind;
-use lus_syntax::{Expr, Infix, ListOperator, Place, Prefix, Span, Tree};
+use lus_syntax::{Expr, Infix, ListOperator, Place, Prefix, Span};
 
 /// An operator's text.
 pub fn sign(expr: &Expr) -> &'static str {
@@ -76,14 +75,10 @@ pub fn main_span(source: &str, expr: &Expr) -> Span {
     }
 }
 
-/// The row that says how what an operator wants is made of an operand of another type.
-pub fn advice(tree: &Tree, wanted: Kind, kind: Kind) -> &'static str {
-    let is_enumeration = !constructors(tree, kind).is_empty();
+/// The row that says how what an operator wants is made of a condition; of other types the meaning says it.
+pub fn advice(wanted: Kind, kind: Kind) -> &'static str {
     match (wanted, kind) {
-        (Kind::Bool, Kind::Int) => "condition",
         (Kind::Int, Kind::Bool) => "reckoned",
-        (Kind::Bool, _) if is_enumeration => "tested",
-        _ if is_enumeration => "ordered",
-        _ => "structured",
+        _ => "operand",
     }
 }

@@ -1,11 +1,11 @@
 //! Changes of the text that mend a fault of types, and the fields that there are.
 
 use crate::given::Given;
-use crate::kinds::{part_named, value_of_type};
+use crate::kinds::{fields_of_type, has_name, lead_text, part_named, value_of_type};
 use crate::listing::counting;
 use crate::reaching::{Through, through_edit};
 use lus_declarations::type_span;
-use lus_faults::{Edit, bytes_at, nearest, slice_of, variable_named};
+use lus_faults::{Edit, bytes_at, slice_of, variable_named};
 use lus_syntax::{Expr, Fields, Group, Name, Part, Span};
 use std::alloc::{AllocError, Global};
 
@@ -15,8 +15,6 @@ const MOST_TOLD: usize = 8;
 /// A change of the text.
 #[derive(Clone, Copy)]
 pub enum Repair<'t> {
-    /// The nearest of some fields in the place of a name.
-    Field(&'t Name, &'t [Fields]),
     /// The branches that a `merge` lacks, at its end.
     Branches(Lacking<'t>),
     /// A sign in the place of so many bytes from one on.
@@ -29,10 +27,8 @@ pub enum Repair<'t> {
     Part(Span, Span),
     /// The fields that a structure lacks, behind a byte.
     Fields(usize, &'t [Fields], &'t [Part]),
-    /// Numbers in the place of the conditions among the operands of sums and products.
-    Numbers(&'t Expr),
-    /// A comparison with zero behind a number, with parentheses where an operator stands right before it.
-    Compared(Span, bool),
+    /// Numbers in the place of the conditions among the operands of sums and products of an expression, one of which is told.
+    Numbers(&'t Expr, &'t Expr),
 }
 
 /// The branches of a `merge`, which ends before a byte; the constructors of its variable, none of a `bool`; and the value of the
@@ -46,7 +42,7 @@ pub struct Lacking<'t> {
 }
 
 /// The names of fields.
-fn names_of(alloc: Global, groups: &[Fields]) -> Result<Vec<&str>, AllocError> {
+pub fn names_of(alloc: Global, groups: &[Fields]) -> Result<Vec<&str>, AllocError> {
     let mut names = Vec::new(alloc);
     for group in groups {
         for field in &group.names {
@@ -54,19 +50,6 @@ fn names_of(alloc: Global, groups: &[Fields]) -> Result<Vec<&str>, AllocError> {
         }
     }
     Ok(names)
-}
-
-/// The nearest of some fields in the place of a name.
-fn field_edit(alloc: Global, name: &Name, groups: &[Fields]) -> Result<Option<Edit>, AllocError> {
-    let names = names_of(alloc, groups)?;
-    match nearest(alloc, name.text.as_str(), &names)? {
-        Some(meant) => Ok(Some(Edit {
-            byte: name.span.start.byte,
-            length: name.span.length,
-            text: String::from_str(alloc, meant)?,
-        })),
-        None => Ok(None),
-    }
 }
 
 /// Appends names, with commas between and an `and` before the last; of many the first, and how many others there are.
@@ -86,16 +69,6 @@ pub fn push_names(text: &mut String, names: &[&str]) -> Result<(), AllocError> {
         write!(text, " and {others} more")?;
     }
     Ok(())
-}
-
-/// The note on a name that is no field of a type: which fields it has.
-pub fn note_on_fields(alloc: Global, of: &str, groups: &[Fields]) -> Result<String, AllocError> {
-    let names = names_of(alloc, groups)?;
-    let word = if names.len() == 1 { "field" } else { "fields" };
-    let mut note = format!(in alloc; "`{of}` has the {word} ")?;
-    push_names(&mut note, &names)?;
-    note.push('.')?;
-    Ok(note)
 }
 
 /// Appends the branch of a label, if there is none.
@@ -124,6 +97,46 @@ fn branches_edit(alloc: Global, lacking: Lacking<'_>) -> Result<Edit, AllocError
     })
 }
 
+/// The variable whose field of its own name the value of a field has in it.
+#[cycle(owners)]
+fn copied_in<'t>(expr: &'t Expr, field: &str) -> Option<&'t str> {
+    match expr {
+        Expr::Field(operand, name) if name.text.as_str() == field => match &**operand {
+            Expr::Name(owner) => Some(owner.text.as_str()),
+            _ => None,
+        },
+        Expr::Parentheses(_, inner) => copied_in(inner, field),
+        Expr::Binary(_, left, right) | Expr::If(_, _, left, right) => {
+            copied_in(left, field).or(copied_in(right, field))
+        }
+        _ => None,
+    }
+}
+
+/// The variable that other fields of a structure are copied from, if it has a field.
+fn owner_in<'t>(given: Given<'t>, parts: &'t [Part], field: &str) -> Option<&'t str> {
+    let node = given.node?;
+    for part in parts {
+        let owner = copied_in(&part.value, lead_text(part))?;
+        let variable = variable_named(node, owner)?;
+        if fields_of_type(given.tree, &variable.group.type_name)
+            .iter()
+            .any(|group| has_name(&group.names, field))
+        {
+            return Some(owner);
+        }
+    }
+    None
+}
+
+/// Whether a field that a structure lacks is copied from where its others come from.
+pub fn is_copied(given: Given<'_>, groups: &[Fields], parts: &[Part]) -> bool {
+    groups.iter().any(|group| group.names.iter().any(|name| {
+        let field = name.text.as_str();
+        part_named(parts, field).is_none() && owner_in(given, parts, field).is_some()
+    }))
+}
+
 /// A value for each field that a structure lacks.
 fn fields_edit(
     given: Given<'_>,
@@ -137,10 +150,14 @@ fn fields_edit(
             if part_named(parts, &name.text).is_some() {
                 continue;
             }
+            let field = name.text.as_str();
+            if let Some(owner) = owner_in(given, parts, field) {
+                write!(text, "; {field} = {owner}.{field}")?;
+                continue;
+            }
             let Some(value) = value_of_type(given.tree, &group.type_name) else {
                 return Ok(None);
             };
-            let field = name.text.as_str();
             write!(text, "; {field} = {value}")?;
         }
     }
@@ -174,75 +191,10 @@ pub fn variables_of(alloc: Global, groups: &[Group]) -> Result<Vec<&str>, AllocE
     Ok(names)
 }
 
-/// Appends how the outputs of a called node are declared that have no variable, from a place among them on, but for those whose names are
-/// taken.
-fn push_declared(
-    given: Given<'_>,
-    note: &mut String,
-    outputs: &[Group],
-    from: usize,
-) -> Result<(), AllocError> {
-    let (mut place, mut front) = (0usize, ", with `var ");
-    for group in outputs {
-        let of = slice_of(given.source, type_span(&group.type_name));
-        for name in &group.names {
-            let text = name.text.as_str();
-            let is_taken = match given.node {
-                Some(node) => variable_named(node, text).is_some(),
-                None => true,
-            };
-            if place >= from && !is_taken {
-                write!(note, "{front}{text}: {of};")?;
-                front = " ";
-            }
-            place = place.saturating_add(1);
-        }
-    }
-    note.push_str(if front == " " { "`." } else { "." })
-}
-
-/// The names on the left of an equation, of which one is told.
-fn left_with<'t>(given: Given<'t>, name: &Name) -> &'t [Name] {
-    for equation in given.equations() {
-        for left in &equation.left {
-            if left.span.start.byte == name.span.start.byte {
-                return equation.left.as_slice();
-            }
-        }
-    }
-    &[]
-}
-
-/// The note on a call whose outputs have too few variables: how each is taken.
-pub fn note_on_outputs(
-    given: Given<'_>,
-    owner: &str,
-    left: &Name,
-    outputs: &[Group],
-) -> Result<String, AllocError> {
-    let names = variables_of(given.alloc, outputs)?;
-    let own = left_with(given, left);
-    let mut note = format!(in given.alloc; "`{owner}` has the outputs ")?;
-    push_names(&mut note, &names)?;
-    note.push_str(". Each needs a variable, as in `(")?;
-    for (place, output) in names.iter().enumerate() {
-        let comma = if place == 0 { "" } else { ", " };
-        let name = match own.get(place) {
-            Some(name) => name.text.as_str(),
-            None => *output,
-        };
-        write!(note, "{comma}{name}")?;
-    }
-    write!(note, ") = {owner}(..);`")?;
-    push_declared(given, &mut note, outputs, own.len())?;
-    Ok(note)
-}
-
 /// The change of the text, if there is one.
 pub fn edit_of(given: Given<'_>, repair: Repair<'_>) -> Result<Option<Edit>, AllocError> {
     let (alloc, source) = (given.alloc, given.source);
     match repair {
-        Repair::Field(name, groups) => field_edit(alloc, name, groups),
         Repair::Branches(lacking) => Ok(Some(branches_edit(alloc, lacking)?)),
         Repair::Sign(byte, length, sign) => Ok(Some(Edit {
             byte,
@@ -251,21 +203,12 @@ pub fn edit_of(given: Given<'_>, repair: Repair<'_>) -> Result<Option<Edit>, All
         })),
         Repair::Through(through) => through_edit(given, through),
         Repair::Fields(byte, groups, parts) => fields_edit(given, byte, groups, parts),
-        Repair::Numbers(right) => counting(given, right),
+        Repair::Numbers(right, told) => counting(given, right, told),
         Repair::Part(whole, part) => Ok(Some(Edit {
             byte: whole.start.byte,
             length: whole.length,
             text: String::from_str(alloc, slice_of(source, part))?,
         })),
-        Repair::Compared(span, is_enclosed) => {
-            let (open, close) = if is_enclosed { ("(", ")") } else { ("", "") };
-            let number = slice_of(source, span);
-            Ok(Some(Edit {
-                byte: span.start.byte,
-                length: span.length,
-                text: format!(in alloc; "{open}{number} <> 0{close}")?,
-            }))
-        }
         Repair::Exchange(first, second) => { Ok(Some(exchanging(alloc, source, first, second)?)) }
     }
 }

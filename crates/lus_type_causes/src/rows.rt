@@ -8,19 +8,15 @@ field | the field `{member}` has type `{wanted}`, found `{found}`
 operand | `{owner}` expects `{wanted}`, found `{found}`
 alike | `{owner}` expects two values of the same type, found `{wanted}` and `{found}`
 branches | the branches of the `merge` have different types, `{wanted}` and `{found}`
-condition | - | A number is not a condition. Compare it, as in `x <> 0`.
 compared | - | `=>` is the implication between two conditions. Numbers are compared by `>=`.
 reckoned | - | To get a number from a `bool`, write `(if c then 1 else 0)`.
-tested | - | A constructor is not a condition. Compare with it, as in `x = On`.
-ordered | - | Constructors are not numbers, and have no order. Compare them with `=` or `<>`.
-structured | - | A structure is not an operand. Use its fields, as in `p.x`.
+opposite | - | A minus makes no opposite of a condition: write `not {first}`.
 chosen | - | `{first}` has type `{own}`, and so has each value of an `if` that defines it.
-foreign | - | `{member}` is a constructor of `{own}`. Those of `{other}` are `{first}` and the others of its declaration.
 values | variables on the left: {number}; values on the right: {count} | Only a call returns several values, one for each output. Write an equation for each variable.
 exchanged | - | Perhaps arguments {number} and {place} are exchanged.
+chained | - | Only the first `=` of an equation defines. The second one compares: to give two variables one value, write an equation for each.
 through | - | `{member}` is a field of `{first}`.
 truth | - | A `bool` is no number: the condition itself is its value.
-nonzero | - | Perhaps `{first} <> 0` is meant: a number is not a condition.
 arguments | `{owner}` takes {number} arguments, found {count}
 one | `{owner}` takes {number} argument, found {count}
 lacking | `{owner}` takes {number} arguments, found {count}: missing `{member}: {wanted}` | Arguments are in the order of the inputs: this one is number {place}.
@@ -35,6 +31,7 @@ repeated | {count} branches have the label `{member}` | A `merge` has one branch
 nameless | `{wanted}` has no field `{member}`
 fieldless | a value of type `{wanted}` has no fields
 constructor | a value of type `{wanted}` has no fields | A constructor is written alone: `{member}`. To test for it, compare, as in `x = {member}`.
+copied | - | A structure gives each field exactly once, in any order. Perhaps the missing values are those of the structure that the others come from.
 completed | - | A structure gives each field exactly once, in any order. Choose the values of new ones: those here are placeholders.
 unset | missing field `{member}` | A structure gives each field exactly once, in any order.
 reset | the field `{member}` has {count} values | A structure gives each field exactly once, in any order.

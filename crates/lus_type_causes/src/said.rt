@@ -2,7 +2,11 @@
 
 use crate::given::Given;
 use crate::listing::{Listed, note_on_listed, push_further};
-use crate::repair::{Repair, edit_of, note_on_fields, note_on_outputs};
+use crate::meaning::Misfit;
+use crate::notes::{Meaning, with_meaning};
+use crate::redeclaring::Offer;
+use crate::outputs::note_on_outputs;
+use crate::repair::{Repair, edit_of};
 use crate::rows::row;
 use lus_faults::{Finding, extent_of};
 use lus_program::Kind;
@@ -26,7 +30,7 @@ pub struct Words<'t> {
 
 /// What is said of a fault: a row of texts and their words, what is marked, expressions of a type, a declaration, or a variable that has
 /// the wanted type, a change of the text, the first of the variables that take what a call gives, and the variable whose declared type
-/// may be wrong, with the type that it would have then; and what the note lists by its names.
+/// may be wrong, with the type that it would have then; what the note lists by its names; and what is meant in the place of a value.
 #[derive(Clone, Copy)]
 pub struct Said<'t> {
     pub row: &'static str,
@@ -41,6 +45,8 @@ pub struct Said<'t> {
     pub listed: Option<Listed<'t>>,
     pub taking: Option<&'t Name>,
     pub suspect: Option<(&'t Name, Kind)>,
+    pub offer: Offer,
+    pub meaning: Option<Meaning<'t>>,
 }
 
 /// The name whose type an expression has, where it is a name that may be delayed or sampled.
@@ -71,6 +77,16 @@ impl<'t> Said<'t> {
             listed: None,
             taking: None,
             suspect: None,
+            offer: Offer::Never,
+            meaning: None,
+        }
+    }
+
+    /// What is said, with what is meant in the place of a value of another type than is wanted.
+    pub fn meaning(self, misfit: Misfit<'t>) -> Said<'t> {
+        Said {
+            meaning: Some(Meaning::Value(misfit)),
+            ..self
         }
     }
 
@@ -154,16 +170,13 @@ pub fn finding_of(given: Given<'_>, said: &Said<'_>) -> Result<Finding, AllocErr
         finding.relate(name.span, label)?;
     }
     let note = row(said.advice).1;
-    if !note.is_empty() {
+    if !note.is_empty() && (said.meaning.is_none() || matches!(said.advice, "chosen" | "lacking")) {
         finding.note = Some(filled(alloc, note, said.words)?);
     }
     if let Some(left) = said.taking
         && let Some(called) = given.node_named(said.words.owner)
     {
-        finding.note = Some(note_on_outputs(given, said.words.owner, left, &called.outputs)?);
-    }
-    if let Some(Repair::Field(_, groups)) = said.repair {
-        finding.note = Some(note_on_fields(alloc, said.words.wanted, groups)?);
+        finding.note = note_on_outputs(given, said.words.owner, left, &called.outputs)?;
     }
     if let Some(listed) = said.listed {
         finding.note = Some(note_on_listed(given, listed)?);
@@ -172,5 +185,8 @@ pub fn finding_of(given: Given<'_>, said: &Said<'_>) -> Result<Finding, AllocErr
     if let Some(repair) = said.repair {
         finding.edit = edit_of(given, repair)?;
     }
-    Ok(finding)
+    match said.meaning {
+        Some(meaning) => with_meaning(given, finding, meaning),
+        None => Ok(finding),
+    }
 }
