@@ -1,0 +1,115 @@
+//! Scripts beside a program, as this compiler judges them.
+
+ghost use Rattle.std.specs.Prelude.{◌≢◌, IfOk, OnOk, Some, option_map};
+ghost use Rattle.lus_scripts.specs.declared.refusal.ScriptRefusal.TheVariants as refusals;
+ghost use Rattle.lus_reports.specs.CliSpecs.CodeSpecs.Codes.{program_of};
+ghost use Rattle.lus_reports.specs.Diagnoses.{IsAccepted, IsRefused};
+ghost use Rattle.lus_editing.specs.Scripts.{AreDiagnosed};
+ghost use Rattle.lus_lsp.specs.Scripts.{AcceptsScripts, AreAnyDiagnosed, AreDiagnosedFor, RefusesScripts};
+
+use lus_diagnostics::Diagnostic;
+use lus_editing::ScriptDiagnosis;
+use lus_explain::notes_of;
+use lus_program::Program as Source;
+use lus_reports::lus_cli::lus_host::{Program, read_scripts};
+use lus_reports::{explain, script_error};
+use lus_scripts::{ScriptRefusal, read_scripts as read_for};
+use lus_syntax::RefusalNumber;
+use lus_values::Names;
+use std::alloc::{AllocError, Global};
+
+/// The error of scripts that are refused so.
+fn error_of(
+    alloc: Global,
+    program: &Program,
+    scripts: &str,
+    refusal: ScriptRefusal,
+) -> Result<Diagnostic, AllocError>
+    ensures { OnOk result (refusal ≢ refusals.Memory) }
+{
+    if refusal == ScriptRefusal::Memory {
+        return Err(AllocError);
+    }
+    script_error(alloc, program, scripts.as_bytes(), refusal)
+}
+
+/// What there is to say of scripts for a program.
+fn diagnosed_for(
+    alloc: Global,
+    program: &Program,
+    scripts: &str,
+) -> Result<ScriptDiagnosis, AllocError>
+    ensures { IfOk result (λ d. AreDiagnosedFor (program_of program.now) scripts.now d) }
+{
+    match read_scripts(alloc, program, scripts.as_bytes()) {
+        Ok(accepted) => match notes_of(alloc, program, &accepted) {
+            Ok(notes) => Ok(ScriptDiagnosis::Accepted(notes)),
+            Err(_) => Err(AllocError),
+        },
+        Err(refusal) => {
+            let error = error_of(alloc, program, scripts, refusal)?;
+            Ok(ScriptDiagnosis::Refused(error))
+        }
+    }
+}
+
+/// The error of scripts that are refused so for any program.
+fn error_of_any(
+    alloc: Global,
+    scripts: &str,
+    refusal: ScriptRefusal,
+) -> Result<ScriptDiagnosis, AllocError> {
+    match explain(alloc, b"") {
+        Ok(nothing) => {
+            let error = error_of(alloc, &nothing, scripts, refusal)?;
+            Ok(ScriptDiagnosis::Refused(error))
+        }
+        Err(_) => Err(AllocError),
+    }
+}
+
+/// What there is to say of scripts for any program: by that of no nodes they are refused for what is wrong with any, or for a node that it
+/// doesn't have.
+fn diagnosed_for_any(alloc: Global, scripts: &str) -> Result<ScriptDiagnosis, AllocError>
+    ensures { IfOk result (λ d. AreAnyDiagnosed scripts.now d) }
+{
+    let nothing = Source {
+        types: Vec::new(alloc),
+        nodes: Vec::new(alloc),
+    };
+    let names = Names::new(alloc);
+    match read_for(alloc, &nothing, &names, scripts.as_bytes()) {
+        Ok(_) | Err(ScriptRefusal::Unknown) => Ok(ScriptDiagnosis::Open),
+        Err(refusal) => error_of_any(alloc, scripts, refusal),
+    }
+}
+
+/// What there is to say of scripts beside a source.
+fn diagnosed_beside(
+    alloc: Global,
+    source: &str,
+    scripts: &str,
+) -> Result<ScriptDiagnosis, AllocError>
+    ensures { IfOk result (λ d. AreDiagnosed IsAccepted IsRefused AcceptsScripts RefusesScripts scripts.now (Some source.now) d) }
+{
+    match explain(alloc, source.as_bytes()) {
+        Ok(program) => diagnosed_for(alloc, &program, scripts),
+        Err(refusal) if refusal.number == RefusalNumber::Memory => Err(AllocError),
+        Err(_) => diagnosed_for_any(alloc, scripts),
+    }
+}
+
+/// What there is to say of scripts beside the source of their program, if that is known.
+pub(crate) fn diagnosed(
+    alloc: Global,
+    source: Option<&str>,
+    scripts: &str,
+) -> Result<ScriptDiagnosis, AllocError>
+    ensures { IfOk result (λ d. AreDiagnosed IsAccepted IsRefused AcceptsScripts RefusesScripts scripts.now
+        (option_map (λ t. t.now) source.entry) d) }
+{
+    match source {
+        Some(source) => diagnosed_beside(alloc, source, scripts),
+        None => diagnosed_for_any(alloc, scripts),
+    }
+}
