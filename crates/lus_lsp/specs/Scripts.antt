@@ -1,5 +1,5 @@
 -- Scripts beside the source of a program: which are accepted, and which are refused.
-use Rattle.std.specs.Prelude.{◌≢◌}
+use Rattle.std.specs.Prelude.{◌≢◌, []}
 use Rattle.lus_syntax.specs.Lexemes.{Text}
 use Rattle.lus_program.specs.Programs.{Program}
 use Rattle.lus_scripts.specs.Scripts.{Scripts}
@@ -9,6 +9,10 @@ use Rattle.lus_reports.specs.CliSpecs.MachineSpecs.Acceptance.{Accepted}
 use Rattle.lus_reports.specs.CliSpecs.HostSpecs.ScriptRefusals.{AreRefused, AreScripts}
 use Rattle.lus_editing.specs.declared.compiler.ScriptDiagnosis.{ScriptDiagnosis}
 use Rattle.lus_editing.specs.declared.compiler.ScriptDiagnosis.TheVariants as diagnoses
+
+-- the program without types and nodes
+abbrev pub empty_program : Program
+empty_program = record { types = []; nodes = [] }
 
 -- scripts are accepted for a program, or refused for a cause
 abbrev pub AreAccepted : Program → Text → Type 0
@@ -31,7 +35,7 @@ AreDiagnosedFor p scripts (diagnoses.Refused error) = (e : ScriptRefusal) × Are
 AreDiagnosedFor p scripts diagnoses.Open = ⊥
 
 -- what there is to say of scripts where no program is known: an error only if they are refused for each
-abbrev pub AreAnyDiagnosed : Text → ScriptDiagnosis → Type 0
-AreAnyDiagnosed scripts (diagnoses.Accepted notes) = ⊥
-AreAnyDiagnosed scripts (diagnoses.Refused error) = (e : ScriptRefusal) × ((p : Program) → AreRefusedFor e scripts p)
-AreAnyDiagnosed scripts diagnoses.Open = Unit {0}
+abbrev pub AreDiagnosedForAny : Text → ScriptDiagnosis → Type 0
+AreDiagnosedForAny scripts (diagnoses.Accepted notes) = ⊥
+AreDiagnosedForAny scripts (diagnoses.Refused error) = (e : ScriptRefusal) × ((p : Program) → AreRefusedFor e scripts p)
+AreDiagnosedForAny scripts diagnoses.Open = Unit {0}

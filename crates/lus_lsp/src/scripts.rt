@@ -1,11 +1,13 @@
 //! Scripts beside a program, as this compiler judges them.
 
-ghost use Rattle.std.specs.Prelude.{◌≢◌, IfOk, OnOk, Some, option_map};
+ghost use Rattle.std.specs.Prelude.{◌≡◌, ◌≢◌, [], IfOk, IfSome, OnOk, Some, option_map};
+ghost use Rattle.lus_syntax.specs.declared.refusal.RefusalNumber.TheVariants as numbers;
 ghost use Rattle.lus_scripts.specs.declared.refusal.ScriptRefusal.TheVariants as refusals;
 ghost use Rattle.lus_reports.specs.CliSpecs.CodeSpecs.Codes.{program_of};
 ghost use Rattle.lus_reports.specs.Diagnoses.{IsAccepted, IsRefused};
 ghost use Rattle.lus_editing.specs.Scripts.{AreDiagnosed};
-ghost use Rattle.lus_lsp.specs.Scripts.{AcceptsScripts, AreAnyDiagnosed, AreDiagnosedFor, RefusesScripts};
+ghost use Rattle.lus_reports.specs.CliSpecs.HostSpecs.ScriptRefusals.{AreRefused};
+ghost use Rattle.lus_lsp.specs.Scripts.{AcceptsScripts, AreDiagnosedFor, AreDiagnosedForAny, RefusesScripts, empty_program};
 
 use lus_diagnostics::Diagnostic;
 use lus_editing::ScriptDiagnosis;
@@ -14,7 +16,7 @@ use lus_program::Program as Source;
 use lus_reports::lus_cli::lus_host::{Program, read_scripts};
 use lus_reports::{explain, script_error};
 use lus_scripts::{ScriptRefusal, read_scripts as read_for};
-use lus_syntax::RefusalNumber;
+use lus_syntax::{Refusal, RefusalNumber};
 use lus_values::Names;
 use std::alloc::{AllocError, Global};
 
@@ -53,35 +55,71 @@ fn diagnosed_for(
     }
 }
 
+/// The program without types and nodes.
+fn empty_program(alloc: Global) -> Source
+    ensures types { result.types.items ≡ [] }
+    ensures nodes { result.nodes.items ≡ [] }
+{
+    Source {
+        types: Vec::new(alloc),
+        nodes: Vec::new(alloc),
+    }
+}
+
+/// Why scripts are refused for the program without nodes, if they are.
+fn refusal_of(alloc: Global, scripts: &str) -> Option<ScriptRefusal>
+    ensures { IfSome result (λ e. AreRefused empty_program scripts.now e) }
+{
+    let program = empty_program(alloc);
+    let names = Names::new(alloc);
+    match read_for(alloc, &program, &names, scripts.as_bytes()) {
+        Ok(_) => None,
+        Err(refusal) => Some(refusal),
+    }
+}
+
 /// The error of scripts that are refused so for any program.
 fn error_of_any(
     alloc: Global,
     scripts: &str,
     refusal: ScriptRefusal,
-) -> Result<ScriptDiagnosis, AllocError> {
+) -> Result<Diagnostic, AllocError>
+    ensures { OnOk result (refusal ≢ refusals.Memory) }
+{
     match explain(alloc, b"") {
-        Ok(nothing) => {
-            let error = error_of(alloc, &nothing, scripts, refusal)?;
-            Ok(ScriptDiagnosis::Refused(error))
-        }
+        Ok(program) => error_of(alloc, &program, scripts, refusal),
         Err(_) => Err(AllocError),
     }
 }
 
-/// What there is to say of scripts for any program: by that of no nodes they are refused for what is wrong with any, or for a node that it
+/// What there is to say of scripts for any program: the one without nodes refuses them for what is wrong for each, or for a node that it
 /// doesn't have.
 fn diagnosed_for_any(alloc: Global, scripts: &str) -> Result<ScriptDiagnosis, AllocError>
-    ensures { IfOk result (λ d. AreAnyDiagnosed scripts.now d) }
+    ensures { IfOk result (λ d. AreDiagnosedForAny scripts.now d) }
 {
-    let nothing = Source {
-        types: Vec::new(alloc),
-        nodes: Vec::new(alloc),
+    let Some(refusal) = refusal_of(alloc, scripts) else {
+        return Ok(ScriptDiagnosis::Open);
     };
-    let names = Names::new(alloc);
-    match read_for(alloc, &nothing, &names, scripts.as_bytes()) {
-        Ok(_) | Err(ScriptRefusal::Unknown) => Ok(ScriptDiagnosis::Open),
-        Err(refusal) => error_of_any(alloc, scripts, refusal),
+    if refusal == ScriptRefusal::Unknown {
+        return Ok(ScriptDiagnosis::Open);
     }
+    let error = error_of_any(alloc, scripts, refusal)?;
+    Ok(ScriptDiagnosis::Refused(error))
+}
+
+/// What there is to say of scripts beside a source that is refused so.
+fn diagnosed_without(
+    alloc: Global,
+    refusal: &Refusal,
+    scripts: &str,
+) -> Result<ScriptDiagnosis, AllocError>
+    ensures diagnosed { IfOk result (λ d. AreDiagnosedForAny scripts.now d) }
+    ensures other { OnOk result (refusal.now.number ≢ numbers.Memory) }
+{
+    if refusal.number == RefusalNumber::Memory {
+        return Err(AllocError);
+    }
+    diagnosed_for_any(alloc, scripts)
 }
 
 /// What there is to say of scripts beside a source.
@@ -94,8 +132,7 @@ fn diagnosed_beside(
 {
     match explain(alloc, source.as_bytes()) {
         Ok(program) => diagnosed_for(alloc, &program, scripts),
-        Err(refusal) if refusal.number == RefusalNumber::Memory => Err(AllocError),
-        Err(_) => diagnosed_for_any(alloc, scripts),
+        Err(refusal) => diagnosed_without(alloc, &refusal, scripts),
     }
 }
 
