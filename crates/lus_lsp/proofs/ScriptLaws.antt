@@ -12,7 +12,7 @@ use Rattle.lus_lsp.specs.Scripts.{AcceptsScripts, AreDiagnosedFor, AreDiagnosedF
 pub beside_program : (source scripts : Text) (p : Program) → Accepted source p → (d : ScriptDiagnosis) → AreDiagnosedFor p scripts d
     → AreDiagnosed IsAccepted IsRefused AcceptsScripts RefusesScripts scripts (Some source) d
 beside_program source scripts p accepted (diagnoses.Accepted notes) is = are_accepted (p, accepted, is)
-beside_program source scripts p accepted (diagnoses.Refused error) is = are_refused (p, accepted, is)
+beside_program source scripts p accepted (diagnoses.Refused error) is = are_refused (p, accepted, is.0, is.1)
 beside_program source scripts p accepted diagnoses.Open is = absurd is
 
 pub beside_none : (known : Option Text) (scripts : Text) → IsUnknown IsRefused known → (d : ScriptDiagnosis) → AreDiagnosedForAny scripts d

@@ -2,12 +2,14 @@
 
 ghost use Rattle.std.specs.Prelude.{◌≡◌, ◌≢◌, [], IfOk, IfSome, OnOk, Some, option_map};
 ghost use Rattle.lus_syntax.specs.declared.refusal.RefusalNumber.TheVariants as numbers;
+ghost use Rattle.lus_syntax.specs.Lexemes.{Text};
+ghost use Rattle.lus_program.specs.Programs as programs;
 ghost use Rattle.lus_scripts.specs.declared.refusal.ScriptRefusal.TheVariants as refusals;
 ghost use Rattle.lus_reports.specs.CliSpecs.CodeSpecs.Codes.{program_of};
 ghost use Rattle.lus_reports.specs.Diagnoses.{IsAccepted, IsRefused};
 ghost use Rattle.lus_editing.specs.Scripts.{AreDiagnosed};
 ghost use Rattle.lus_reports.specs.CliSpecs.HostSpecs.ScriptRefusals.{AreRefused};
-ghost use Rattle.lus_lsp.specs.Scripts.{AcceptsScripts, AreDiagnosedFor, AreDiagnosedForAny, RefusesScripts, empty_program};
+ghost use Rattle.lus_lsp.specs.Scripts.{AcceptsScripts, AreAccepted, AreDiagnosedFor, AreDiagnosedForAny, RefusesScripts, empty_program};
 
 use lus_diagnostics::Diagnostic;
 use lus_editing::ScriptDiagnosis;
@@ -15,7 +17,7 @@ use lus_explain::notes_of;
 use lus_program::Program as Source;
 use lus_reports::lus_cli::lus_host::{Program, read_scripts};
 use lus_reports::{explain, script_error};
-use lus_scripts::{ScriptRefusal, read_scripts as read_for};
+use lus_scripts::{ScriptRefusal, Scripts, read_scripts as read_for};
 use lus_syntax::{Refusal, RefusalNumber};
 use lus_values::Names;
 use std::alloc::{AllocError, Global};
@@ -35,6 +37,20 @@ fn error_of(
     script_error(alloc, program, scripts.as_bytes(), refusal)
 }
 
+/// What there is to say of accepted scripts.
+fn noted(
+    alloc: Global,
+    program: &Program,
+    scripts: &Scripts,
+) -> Result<ScriptDiagnosis, AllocError>
+    ensures { IfOk result (λ d. (p : programs.Program) (text : Text) → AreAccepted p text → AreDiagnosedFor p text d) }
+{
+    match notes_of(alloc, program, scripts) {
+        Ok(notes) => Ok(ScriptDiagnosis::Accepted(notes)),
+        Err(_) => Err(AllocError),
+    }
+}
+
 /// What there is to say of scripts for a program.
 fn diagnosed_for(
     alloc: Global,
@@ -44,10 +60,7 @@ fn diagnosed_for(
     ensures { IfOk result (λ d. AreDiagnosedFor (program_of program.now) scripts.now d) }
 {
     match read_scripts(alloc, program, scripts.as_bytes()) {
-        Ok(accepted) => match notes_of(alloc, program, &accepted) {
-            Ok(notes) => Ok(ScriptDiagnosis::Accepted(notes)),
-            Err(_) => Err(AllocError),
-        },
+        Ok(accepted) => noted(alloc, program, &accepted),
         Err(refusal) => {
             let error = error_of(alloc, program, scripts, refusal)?;
             Ok(ScriptDiagnosis::Refused(error))

@@ -4,8 +4,8 @@ use Rattle.lus_scripts.specs.declared.refusal.ScriptRefusal.TheVariants.{Unknown
 use Rattle.lus_lsp.proofs.Programs.{refused_for_each}
 use Rattle.lus_lsp.proofs.scripts.diagnosed_for_any.Goals as goal
 
-pub returns-in_ok-error : goal.returns-in_ok-error
-returns-in_ok-error c =
+pub returns : goal.returns
+returns c =
     let e = c.in-Some.refusal in
     let other : e ≢ Unknown = search rules in
     (e, refused_for_each c.args.scripts.now e c.in_ok-error.ensures other c.in-Some.ensures)
