@@ -5,7 +5,7 @@ use Rattle.lus_values.specs.Names.{Text, Names}
 use Rattle.lus_program.specs.Programs.{Program}
 use Rattle.lus_requests.specs.declared.call.Call.{Call}
 use Rattle.lus_scripts.specs.Forms.{CallForm, CallerForm, Form, InstanceForm, both, each, form_of}
-use Rattle.lus_scripts.specs.Scripts.{Scope, Scripts, all_distinct, call_of, caller_names, calls_known, calls_of, demand, instance_names, instance_of, place_of, scripts_of_option, with_calls, with_table, within_limits}
+use Rattle.lus_scripts.specs.Scripts.{Scope, Scripts, all_distinct, call_of, caller_names, calls_known, calls_of, demand, instance_names, instance_of, place_of, scope_of, scripts_of_option, with_calls, with_table, within_limits}
 use Rattle.lus_scripts.specs.declared.refusal.ScriptRefusal.{ScriptRefusal}
 use Rattle.lus_scripts.specs.declared.refusal.ScriptRefusal.TheVariants as refusals
 use Rattle.lus_reports.specs.CliSpecs.HostSpecs.ScriptRefusals.{AreRefused, ScriptsRefused, are_no_json, are_refused, are_too_long}
@@ -45,7 +45,10 @@ calls_refused f true (Some calls) e read is = cc
 names_refused : (names : Names) (instances : List InstanceForm) (callers : List CallerForm) (e : ScriptRefusal)
     → with_table empty_program names (record { instances = instances; callers = callers }) ≡ Err e → e ≡ refusals.Unknown
 unfolding instance_of
-names_refused names [] callers e is = calls_refused (record { instances = []; callers = callers }) (calls_known [] callers) _ e (callers_read _ callers) is
+names_refused names [] callers e is =
+    let f : Form = record { instances = []; callers = callers } in
+    let s = scope_of empty_program names f [] in
+    calls_refused f (calls_known [] callers) (each (calls_of s) callers) e (callers_read s callers) is
 names_refused names (i ∷ instances) callers e is = cc
 
 checks_refused : (a b c : Bool) (x y : Result Scripts ScriptRefusal) (e : ScriptRefusal) → (x ≡ Err e → ⊥)

@@ -1,8 +1,7 @@
 -- What the clauses of reading say, for the program without nodes.
-use Rattle.std.proofs.Common.{◌≡◌, ◌∙◌, IfErr, Result, ap, ap₂, map, subst, sym}
+use Rattle.std.proofs.Common.{◌≡◌, ◌∙◌, IfErr, ap, ap₂, map, subst, sym}
 use Rattle.lus_program.specs.Programs.{Program}
 use Rattle.lus_program.specs.View.{declared_of, node_of, program_seen}
-use Rattle.lus_scripts.specs.declared.refusal.ScriptRefusal.{ScriptRefusal}
 use Rattle.lus_reports.specs.CliSpecs.MachineSpecs.Constructors.{names_of}
 use Rattle.lus_reports.specs.CliSpecs.HostSpecs.ScriptRefusals.{AreRefused}
 use Rattle.lus_reports.proofs.CliProofs.HostProofs.ScriptErrors.{read_refused}
