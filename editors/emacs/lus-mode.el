@@ -42,8 +42,22 @@
 ;;;###autoload
 (add-to-list 'auto-mode-alist '("\\.lus\\'" . lus-mode))
 
+;;;###autoload
+(define-derived-mode lus-script-mode js-mode "Lus script"
+  "Major mode for scripts of Lustre programs, which are JSON.")
+
+;;;###autoload
+(defun lus-script-p ()
+  "Whether the file is a script beside its program, as a.json beside a.lus."
+  (and buffer-file-name
+       (string-match-p "\\.json\\'" buffer-file-name)
+       (file-exists-p (concat (file-name-sans-extension buffer-file-name) ".lus"))))
+
+;;;###autoload
+(add-to-list 'magic-mode-alist '(lus-script-p . lus-script-mode))
+
 (with-eval-after-load 'eglot
-  (add-to-list 'eglot-server-programs '(lus-mode . ("lus_lsp" "--stdio"))))
+  (add-to-list 'eglot-server-programs '((lus-mode lus-script-mode) . ("lus_lsp" "--stdio"))))
 
 (provide 'lus-mode)
 ;;; lus-mode.el ends here

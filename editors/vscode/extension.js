@@ -2,6 +2,7 @@
 // Hands what an editor asks of a Lustre program on to lus_lsp, and its answers back. Positions are the same on both sides: lines and
 // units of UTF-16, from 0.
 
+const { existsSync } = require("fs");
 const vscode = require("vscode");
 const { Connection } = require("./connection");
 
@@ -141,13 +142,21 @@ function providers(ask, legend) {
   ];
 }
 
-/** Tells the server which programs are open and what they hold. */
+/** Whether a file is a script beside its program: a.json beside a.lus. */
+const isScript = (path) => path.endsWith(".json") && existsSync(path.replace(/json$/, "lus"));
+
+/** Tells the server which programs and scripts are open and what they hold. */
 function followDocuments(connection, diagnostics) {
-  const isOurs = (document) => document.languageId === LANGUAGE.language && document.uri.scheme === LANGUAGE.scheme;
   const uri = (document) => document.uri.toString();
-  const open = (document) => isOurs(document) && connection.notify("textDocument/didOpen", {
-    textDocument: { uri: uri(document), languageId: LANGUAGE.language, version: document.version, text: document.getText() },
-  });
+  const followed = new Set();
+  const isOurs = (document) => followed.has(uri(document));
+  const open = (document) => {
+    if (document.uri.scheme !== LANGUAGE.scheme || !(document.languageId === LANGUAGE.language || isScript(document.fileName))) return;
+    followed.add(uri(document));
+    connection.notify("textDocument/didOpen", {
+      textDocument: { uri: uri(document), languageId: document.languageId, version: document.version, text: document.getText() },
+    });
+  };
   vscode.workspace.textDocuments.forEach(open);
   return [
     vscode.workspace.onDidOpenTextDocument(open),
@@ -155,7 +164,7 @@ function followDocuments(connection, diagnostics) {
       textDocument: { uri: uri(document), version: document.version }, contentChanges: [{ text: document.getText() }],
     })),
     vscode.workspace.onDidCloseTextDocument((document) => {
-      if (!isOurs(document)) return;
+      if (!followed.delete(uri(document))) return;
       connection.notify("textDocument/didClose", { textDocument: { uri: uri(document) } });
       diagnostics.delete(document.uri);
     }),

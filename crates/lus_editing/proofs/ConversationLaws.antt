@@ -43,3 +43,13 @@ pub exchanged_whole : {T E : Type 0} (r : Result T E) (old new : Option Bytes) (
     → OnOk r (new ≡ with_text old (frame_text message)) → OnOk r (HasSaid old new)
 exchanged_whole (Ok x) old new message h = said_one old new message h
 exchanged_whole (Err e) old new message h = tt
+
+-- what was said, and what is said behind it
+pub said_then : {T E : Type 0} (r : Result T E) (old mid new : Option Bytes) → HasSaid old mid → OnOk r (HasSaid mid new) → OnOk r (HasSaid old new)
+said_then (Ok x) old mid new said more = said_both old mid new said more
+said_then (Err e) old mid new said more = tt
+
+pub written_then : {T E : Type 0} (r : Result T E) (old mid new : Option Bytes) → HasSaid old mid → OnErr r (WritesFrames mid new)
+    → OnErr r (WritesFrames old new)
+written_then (Ok x) old mid new said more = tt
+written_then (Err e) old mid new said more = frames_more old mid new said more

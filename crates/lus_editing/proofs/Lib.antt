@@ -1,3 +1,4 @@
 pub mod ConversationLaws
 pub mod MessageLaws
+pub mod NameLaws
 pub mod ServingLaws

@@ -1,5 +1,6 @@
 pub mod Answers
 pub mod Messages
 pub mod Renames
+pub mod Scripts
 pub mod Serving
 pub mod Conversations

@@ -1,9 +1,10 @@
 //! What a server asks of a compiler.
 
-ghost use Rattle.std.specs.Prelude.{IfOk, string_bytes};
+ghost use Rattle.std.specs.Prelude.{IfOk, option_map, string_bytes};
 ghost use Rattle.lus_diagnostics.specs.Errors.{AreErrors};
+ghost use Rattle.lus_editing.specs.Scripts.{AreDiagnosed};
 
-use lus_diagnostics::Diagnosis;
+use lus_diagnostics::{Diagnosis, Diagnostic};
 use lus_queries::{Fact, Judged};
 use lus_syntax::Place;
 use std::alloc::{AllocError, Global};
@@ -19,6 +20,17 @@ pub enum RenameProblem {
     OtherProgram,
 }
 
+/// What there is to say of scripts.
+#[derive(Drop)]
+pub enum ScriptDiagnosis {
+    /// They are refused, for this.
+    Refused(Diagnostic),
+    /// They are accepted, with these notes on their steps.
+    Accepted(Vec<Diagnostic>),
+    /// Whether they are accepted depends on a program that isn't known.
+    Open,
+}
+
 /// A compiler, as far as an editor needs it.
 pub trait Compiler {
     ghost use Rattle.std.specs.Prelude.{ℕ, List};
@@ -29,12 +41,28 @@ pub trait Compiler {
 
     ghost refuses: { List ℕ → Refusal → Type 0 };
 
+    // That scripts are accepted, and that they are refused, beside the source of their program.
+    ghost accepts_scripts: { List ℕ → List ℕ → Type 0 };
+
+    ghost refuses_scripts: { List ℕ → List ℕ → Type 0 };
+
     // That a text is a source with a new name in place of the one at a byte.
     ghost renames: { List ℕ → ℕ → List ℕ → List ℕ → Type 0 };
 
     /// The errors of a source, the one that it is refused for first; none where it is accepted, but what it is warned of.
     fn diagnose(&self, alloc: Global, source: &str) -> Result<Diagnosis, AllocError>
         ensures { IfOk result (λ d. AreErrors accepts refuses source.now d.errors.items) };
+
+    /// What there is to say of scripts beside the source of their program, if that is known: where it isn't, or is refused, what holds
+    /// beside any.
+    fn diagnose_scripts(
+        &self,
+        alloc: Global,
+        source: Option<&str>,
+        scripts: &str,
+    ) -> Result<ScriptDiagnosis, AllocError>
+        ensures { IfOk result (λ d. AreDiagnosed accepts refuses accepts_scripts refuses_scripts scripts.now
+            (option_map (λ t. t.now) source.entry) d) };
 
     /// A source with another name in place of the declared one that stands at a byte of it, or ends there, wherever that is named; or why
     /// it can't be replaced.

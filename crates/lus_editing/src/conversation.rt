@@ -8,6 +8,7 @@ ghost use Rattle.lus_editing.specs.Conversations.{HasSaid, WritesFrames};
 use crate::answers::fault;
 use crate::compiler::Compiler;
 use crate::inbox::{Inbox, Incoming};
+use crate::scripts::follow_up;
 use crate::server::Server;
 use crate::serving::serve;
 use lus_devices::{Failure, Sink, Source};
@@ -79,7 +80,22 @@ fn respond<C: Compiler>(
     }
 }
 
-/// Serves what comes, and writes what there is to say to it.
+/// Writes a message in its frame, if there is one.
+fn say_any<O: Sink>(
+    alloc: Global,
+    output: &mut O,
+    said: Option<&str>,
+) -> Result<(), ConversationError>
+    ensures whole { OnOk result (HasSaid (O.written output.old) (O.written output.new)) }
+    ensures beginning { OnErr result (WritesFrames (O.written output.old) (O.written output.new)) }
+{
+    match said {
+        Some(said) => say(alloc, output, said),
+        None => Ok(()),
+    }
+}
+
+/// Serves what comes, and writes what there is to say to it, and then anew of a script whose program it was.
 fn exchange<C: Compiler, O: Sink>(
     alloc: Global,
     compiler: &C,
@@ -91,10 +107,9 @@ fn exchange<C: Compiler, O: Sink>(
     ensures beginning { OnErr result (WritesFrames (O.written output.old) (O.written output.new)) }
 {
     let answer = respond(alloc, compiler, server, incoming)?;
-    match &answer {
-        Some(said) => say(alloc, output, said.as_str()),
-        None => Ok(()),
-    }
+    say_any(alloc, output, answer.as_deref())?;
+    let more = follow_up(alloc, compiler, server)?;
+    say_any(alloc, output, more.as_deref())
 }
 
 /// Reads messages and serves them in their order, until the editor says that the process is to end, or the input ends; of changes of a

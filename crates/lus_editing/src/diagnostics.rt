@@ -124,7 +124,7 @@ fn push_diagnostic(
 }
 
 /// What the notification of diagnostics of a document begins with.
-fn begun(alloc: Global, uri: &str) -> Result<String, AllocError> {
+pub(crate) fn begun(alloc: Global, uri: &str) -> Result<String, AllocError> {
     let mut text = String::from_str(
         alloc,
         "{\"jsonrpc\":\"2.0\",\"method\":\"textDocument/publishDiagnostics\",\"params\":{\"uri\":",

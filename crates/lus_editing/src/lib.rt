@@ -10,13 +10,17 @@ mod diagnostics;
 mod formatting;
 mod inbox;
 mod messages;
+mod names;
 mod queries;
 mod renames;
+mod scripts;
 mod server;
 mod serving;
+mod ways;
 
-pub use compiler::{Compiler, RenameProblem};
+pub use compiler::{Compiler, RenameProblem, ScriptDiagnosis};
 pub use conversation::{ConversationError, converse};
 pub use lus_queries::{Fact, Judged};
+pub use scripts::follow_up;
 pub use server::Server;
 pub use serving::serve;

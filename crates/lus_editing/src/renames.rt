@@ -22,6 +22,14 @@ fn problem_of(problem: RenameProblem) -> Problem {
     }
 }
 
+/// Why no name is replaced where no document of this name is open: a script has none that could be.
+fn problem_without(server: &Server, uri: &str) -> Problem {
+    match server.script(uri) {
+        Some(_) => Problem::NoName,
+        None => Problem::Parameters,
+    }
+}
+
 /// What parameters ask: the document, a position in it, and the new name.
 fn asked(parameters: Option<&Value>) -> Option<(&str, Spot, &str)>
     ensures uri { IfSome result (λ a. option_and_then uri_of (option_map (λ v. view v.now) parameters.entry) ≡ Some a.0.now) }
@@ -71,6 +79,6 @@ pub(crate) fn renamed<C: Compiler>(
     };
     match server.document(uri) {
         Some(document) => changes(alloc, compiler, uri, document.text.as_str(), at, name),
-        None => Ok(Err(Problem::Parameters)),
+        None => Ok(Err(problem_without(server, uri))),
     }
 }

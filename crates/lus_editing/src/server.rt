@@ -1,8 +1,9 @@
-//! What a server keeps: how far it has come, and the documents that are open.
+//! What a server keeps: how far it has come, and the documents and the scripts that are open.
 
 ghost use Rattle.std.specs.Prelude.{◌≡◌, option_map, string_bytes};
 ghost use Rattle.lus_editing.specs.Renames.{source_in};
 
+use crate::names::script_name;
 use indexmap::IndexMap;
 use lus_diagnostics::Diagnosis;
 use std::alloc::{AllocError, Global};
@@ -26,6 +27,13 @@ pub(crate) struct Document {
     pub diagnosis: Diagnosis,
 }
 
+/// A script that is open.
+#[derive(Drop)]
+pub(crate) struct Script {
+    pub version: i64,
+    pub text: String,
+}
+
 /// The state of a server.
 #[derive(Drop)]
 pub struct Server {
@@ -35,6 +43,9 @@ pub struct Server {
     /// Whether the editor takes snippets as completions.
     pub(crate) has_snippets: bool,
     pub(crate) documents: IndexMap<String, Document>,
+    pub(crate) scripts: IndexMap<String, Script>,
+    /// The open script whose program was sent or closed, until that is said which there is to say of it now.
+    pub(crate) due: Option<String>,
 }
 
 impl Server {
@@ -45,6 +56,8 @@ impl Server {
             shows_related: false,
             has_snippets: false,
             documents: IndexMap::new(alloc),
+            scripts: IndexMap::new(alloc),
+            due: None,
         }
     }
 
@@ -76,8 +89,37 @@ impl Server {
         Ok(())
     }
 
-    /// Keeps the document of a name no more.
+    /// The open script of a name.
+    pub(crate) fn script(&self, uri: &str) -> Option<&Script> {
+        self.scripts.get(uri)
+    }
+
+    /// Keeps a script under its name, in place of one that was kept there.
+    pub(crate) fn keep_script(
+        &mut self,
+        alloc: Global,
+        uri: &str,
+        script: Script,
+    ) -> Result<(), AllocError> {
+        let name = String::from_str(alloc, uri)?;
+        let _before = self.scripts.insert(name, script)?;
+        Ok(())
+    }
+
+    /// Keeps the document or the script of a name no more.
     pub(crate) fn close(&mut self, uri: &str) {
         let _document = self.documents.swap_remove(uri);
+        let _script = self.scripts.swap_remove(uri);
+    }
+
+    /// Makes the script of a program due, if it is open.
+    pub(crate) fn expect_script(&mut self, alloc: Global, uri: &str) -> Result<(), AllocError> {
+        let Some(name) = script_name(alloc, uri)? else {
+            return Ok(());
+        };
+        if self.script(name.as_str()).is_some() {
+            self.due = Some(name);
+        }
+        Ok(())
     }
 }

@@ -17,8 +17,10 @@ use crate::formatting::formatted;
 use crate::messages::{
     Sent, has_snippets, id_of, method_of, parameters_of, parse, sent_by, shows_related, uri_of,
 };
+use crate::names::is_script;
 use crate::queries::{queried, query_of};
 use crate::renames::renamed;
+use crate::scripts::take_script;
 use crate::server::{Document, Server, Stage};
 use serde_json::Value;
 use std::alloc::{AllocError, Global};
@@ -34,6 +36,21 @@ fn stage_problem(stage: Stage, is_initialize: bool) -> Option<Problem>
         Stage::Running => None,
         Stage::Shut | Stage::Over { .. } => Some(Problem::Request),
     }
+}
+
+/// Whether parameters name a script that is open.
+fn is_of_script(server: &Server, parameters: Option<&Value>) -> bool {
+    match parameters.and_then(uri_of) {
+        Some(uri) => server.script(uri).is_some(),
+        None => false,
+    }
+}
+
+/// Whether a method asks something of a document.
+fn is_question(method: &str) -> bool {
+    method == "textDocument/formatting"
+        || method == "textDocument/codeAction"
+        || query_of(method).is_some()
 }
 
 /// What a request gives that can be done at this stage but that for another name, or why its method can't take its parameters.
@@ -55,6 +72,22 @@ fn outcome_otherwise<C: Compiler>(
             server.stage = Stage::Shut;
             Ok(Ok(String::from_str(alloc, "null")?))
         }
+        _ => asked(alloc, compiler, server, method, parameters),
+    }
+}
+
+/// What is given to a method that asks something of a document: nothing of a script.
+fn asked<C: Compiler>(
+    alloc: Global,
+    compiler: &C,
+    server: &Server,
+    method: &str,
+    parameters: Option<&Value>,
+) -> Result<Result<String, Problem>, AllocError> {
+    if is_of_script(server, parameters) && is_question(method) {
+        return Ok(Ok(String::from_str(alloc, "null")?));
+    }
+    match method {
         "textDocument/formatting" => formatted(alloc, compiler, server, parameters),
         "textDocument/codeAction" => actions_of(alloc, server, parameters),
         _ => match query_of(method) {
@@ -120,8 +153,8 @@ fn answer<C: Compiler>(
     }
 }
 
-/// Keeps a text that was sent, and says what its errors are, or its warnings.
-fn take<C: Compiler>(
+/// Keeps the text of a program that was sent, and says what its errors are, or its warnings.
+fn take_program<C: Compiler>(
     alloc: Global,
     compiler: &C,
     server: &mut Server,
@@ -131,7 +164,22 @@ fn take<C: Compiler>(
     let said = published(alloc, sent, &diagnosis, server.shows_related)?;
     let text = String::from_str(alloc, sent.text)?;
     server.keep(alloc, sent.uri, Document { text, diagnosis })?;
+    server.expect_script(alloc, sent.uri)?;
     Ok(said)
+}
+
+/// Keeps a text that was sent, and says what there is to say of it.
+fn take<C: Compiler>(
+    alloc: Global,
+    compiler: &C,
+    server: &mut Server,
+    sent: Sent<'_>,
+) -> Result<String, AllocError> {
+    if is_script(sent.uri) {
+        take_script(alloc, compiler, server, sent)
+    } else {
+        take_program(alloc, compiler, server, sent)
+    }
 }
 
 /// Closes the document that parameters name, and says that it has no errors.
@@ -143,6 +191,7 @@ fn close(
     match parameters.and_then(uri_of) {
         Some(uri) => {
             server.close(uri);
+            server.expect_script(alloc, uri)?;
             Ok(Some(closed(alloc, uri)?))
         }
         None => Ok(None),

@@ -10,4 +10,5 @@ mod script;
 mod shell;
 mod words;
 
+pub use notes::notes_of;
 pub use shell::command;

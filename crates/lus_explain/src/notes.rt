@@ -64,7 +64,7 @@ fn add_notes(
 }
 
 /// A note on each step of scripts, and on each burst, whose inputs its node refuses whatever comes before, up to the most notes.
-pub(crate) fn notes_of(
+pub fn notes_of(
     alloc: Global,
     program: &Program,
     scripts: &Scripts,

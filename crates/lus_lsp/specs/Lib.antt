@@ -1,1 +1,2 @@
 pub mod Renames
+pub mod Scripts

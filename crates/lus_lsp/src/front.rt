@@ -2,8 +2,9 @@
 
 use crate::facts::fact_of;
 use crate::judging::judged_at;
+use crate::scripts::diagnosed;
 use lus_diagnostics::Diagnosis;
-use lus_editing::{Compiler, Fact, Judged, RenameProblem};
+use lus_editing::{Compiler, Fact, Judged, RenameProblem, ScriptDiagnosis};
 use lus_format::{FormatError, format};
 use lus_rename::{RenameError, renamed};
 use lus_reports::diagnose;
@@ -25,16 +26,30 @@ pub struct Front;
 
 impl Compiler for Front {
     ghost use Rattle.lus_lsp.specs.Renames.{Renames};
+    ghost use Rattle.lus_lsp.specs.Scripts.{AcceptsScripts, RefusesScripts};
     ghost use Rattle.lus_reports.specs.Diagnoses.{IsAccepted, IsRefused};
 
     ghost accepts = { IsAccepted };
 
     ghost refuses = { IsRefused };
 
+    ghost accepts_scripts = { AcceptsScripts };
+
+    ghost refuses_scripts = { RefusesScripts };
+
     ghost renames = { Renames };
 
     fn diagnose(&self, alloc: Global, source: &str) -> Result<Diagnosis, AllocError> {
         diagnose(alloc, source.as_bytes(), true)
+    }
+
+    fn diagnose_scripts(
+        &self,
+        alloc: Global,
+        source: Option<&str>,
+        scripts: &str,
+    ) -> Result<ScriptDiagnosis, AllocError> {
+        diagnosed(alloc, source, scripts)
     }
 
     fn renamed(

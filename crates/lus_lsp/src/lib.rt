@@ -5,6 +5,7 @@ mod facts;
 mod front;
 mod judging;
 mod narrowing;
+mod scripts;
 mod shell;
 
 pub use shell::command;

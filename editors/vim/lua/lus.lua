@@ -7,6 +7,9 @@ local function at_root()
 end
 
 local function set_keys(buffer)
+  if vim.bo[buffer].filetype ~= "lus" then
+    return
+  end
   local keys = {
     gd = vim.lsp.buf.definition,
     gr = vim.lsp.buf.references,
