@@ -12,11 +12,7 @@ use lus_syntax::{Equation, Expr, Name, Node, Span, Tree, TypeName};
 use std::alloc::AllocError;
 
 /// What is said of the name of a node that is used as a value.
-pub fn called_node<'t>(
-    tree: &'t Tree,
-    node: Option<&'t Node>,
-    found: Use<'t>,
-) -> Option<Said<'t>> {
+pub fn called_node<'t>(tree: &'t Tree, node: Option<&'t Node>, found: Use<'t>) -> Option<Said<'t>> {
     if !matches!(found.purpose, Purpose::Value | Purpose::Variable) {
         return None;
     }

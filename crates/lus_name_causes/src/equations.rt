@@ -169,8 +169,8 @@ fn twice<'t>(
     }
     let text = left.text.as_str();
     let is_remembered = is_value(&first.right) && remembers(alloc, &second.right, text)?;
-    let is_counted =
-        matches!(first.right, Expr::Number(_, _)) && reckons_with(alloc, &second.right, text)?;
+    let is_counted = matches!(first.right, Expr::Number(_, _))
+        && reckons_with(alloc, &second.right, text)?;
     if is_remembered || is_counted {
         let note =
             "Equations are not run in order, and each holds at every instant: one stands for both, in which the first value is before `->`.";

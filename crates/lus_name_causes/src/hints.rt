@@ -174,9 +174,11 @@ fn with_chain(
         length: end.saturating_sub(byte),
         text: format!(in given.alloc; "{text} = {value}; {first} = {text}")?,
     };
-    Ok(finding
-        .with_note(given.alloc, note.as_str())?
-        .with_edit(Some(edit)))
+    Ok(
+        finding
+            .with_note(given.alloc, note.as_str())?
+            .with_edit(Some(edit)),
+    )
 }
 
 /// The name of a type as it is written.
@@ -235,7 +237,10 @@ pub fn with_literal(
     name: &Name,
     value: &Literal,
 ) -> Result<Finding, AllocError> {
-    let (owner, text) = (name.text.as_str(), slice_of(given.source, literal_span(value)));
+    let (owner, text) = (
+        name.text.as_str(),
+        slice_of(given.source, literal_span(value)),
+    );
     let note = format!(in given.alloc;
         "A constant is a number, `true`, `false` or a constructor, and no other constant. The value of `{owner}` is `{text}`."
     )?;

@@ -65,9 +65,7 @@ fn lacking<'t>(names: &'t [Name], parts: &[Part]) -> Option<&'t Name> {
 /// The value of the branch of a label, where it is written as a value.
 fn literal_of<'t>(given: Given<'t>, parts: &'t [Part], label: &Name) -> &'t str {
     for part in parts {
-        if is_label(part, label)
-            && matches!(part.value, Expr::Number(_, _) | Expr::Truth(_, _))
-        {
+        if is_label(part, label) && matches!(part.value, Expr::Number(_, _) | Expr::Truth(_, _)) {
             return slice_of(given.source, extent_of(given.source, &part.value));
         }
     }

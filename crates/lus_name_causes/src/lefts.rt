@@ -8,10 +8,8 @@ use std::alloc::{AllocError, Global};
 
 /// What is said of a constant on the left of an equation.
 fn constant<'t>(tree: &'t Tree, left: &'t Name) -> Option<Said<'t>> {
-    let constant = tree
-        .constants
-        .iter()
-        .find(|constant| constant.name.text.as_str() == left.text.as_str())?;
+    let constant = tree.constants.iter().find(|constant| constant.name.text.as_str()
+        == left.text.as_str())?;
     Some(Said {
         beside: Some((constant.name.span, "`{}` is declared here, with its value")),
         ..told_of(
@@ -133,7 +131,10 @@ fn may_be_of(tree: &Tree, node: &Node, text: &str, of: Option<Plain<'_>>) -> boo
     let Some(variable) = variable_named(node, text) else {
         return false;
     };
-    match (resolved(tree, &variable.group.type_name, tree.types.len()), of) {
+    match (
+        resolved(tree, &variable.group.type_name, tree.types.len()),
+        of,
+    ) {
         (_, None) => true,
         (Some(Plain::Bool), Some(Plain::Bool)) | (Some(Plain::Int), Some(Plain::Int)) => true,
         (Some(Plain::Declared(own, _)), Some(Plain::Declared(other, _))) => own == other,

@@ -81,11 +81,7 @@ pub fn foreign<'t>(node: Option<&'t Node>, found: Use<'t>) -> Option<Said<'t>> {
 }
 
 /// Adds the changes of the types of groups that other languages have.
-fn push_types(
-    given: Given<'_>,
-    edits: &mut Vec<Edit>,
-    groups: &[Group],
-) -> Result<(), AllocError> {
+fn push_types(given: Given<'_>, edits: &mut Vec<Edit>, groups: &[Group]) -> Result<(), AllocError> {
     for group in groups {
         if let TypeName::Declared(name) = &group.type_name
             && declared_type(given.tree, name.text.as_str()).is_none()

@@ -184,10 +184,17 @@ fn valued<'t>(tree: &'t Tree, node: Option<&'t Node>, found: Use<'t>) -> Option<
         return Some(Said {
             beside: Some((constant.name.span, "`{}` is declared here")),
             repair: Some(Repair::Literal(&constant.value)),
-            ..told_of(found.name, "`{}` is a constant, and a constant's value is none", "")
+            ..told_of(
+                found.name,
+                "`{}` is a constant, and a constant's value is none",
+                "",
+            )
         });
     }
-    let other = tree.nodes.iter().find(|node| variable_named(node, text).is_some())?;
+    let other = tree
+        .nodes
+        .iter()
+        .find(|node| variable_named(node, text).is_some())?;
     let variable = variable_named(other, text)?;
     Some(Said {
         beside: Some((variable.name.span, "`{}` is a variable here")),
@@ -228,11 +235,20 @@ fn of_spelling(node: Option<&Node>) -> Option<Repair<'_>> {
     Some(Repair::Respelling(node?))
 }
 
-/// The only one of some names that begins with a text.
-fn longer<'n>(text: &str, names: &[&'n str]) -> Option<&'n str> {
+/// The fewest bytes of a name that may be the beginning of another one.
+const FEWEST_BYTES: usize = 3;
+
+/// Whether one of two names begins with the other, which is long enough.
+fn begins_alike(name: &str, text: &str) -> bool {
+    name.starts_with(text) && text.len() >= FEWEST_BYTES
+        || text.starts_with(name) && name.len() >= FEWEST_BYTES
+}
+
+/// The only one of some names that begins with a text, or that a text begins with.
+fn alike<'n>(text: &str, names: &[&'n str]) -> Option<&'n str> {
     let mut found = None;
     for name in names {
-        if name.starts_with(text) {
+        if begins_alike(name, text) {
             if found.is_some() {
                 return None;
             }
@@ -242,10 +258,7 @@ fn longer<'n>(text: &str, names: &[&'n str]) -> Option<&'n str> {
     found
 }
 
-/// The fewest bytes of a name that may be the beginning of another one.
-const FEWEST_BYTES: usize = 3;
-
-/// What is said of a name that is none elsewhere, and near to no other: it may be the beginning of a longer one.
+/// What is said of a name that is none elsewhere, and near to no other: it may be longer or shorter than the one that is meant.
 fn of_nothing<'t>(
     alloc: Global,
     tree: &'t Tree,
@@ -254,9 +267,9 @@ fn of_nothing<'t>(
 ) -> Result<Said<'t>, AllocError> {
     let text = found.name.text.as_str();
     let said = told_of(found.name, found.purpose.sentence(), note_on(found));
-    if text.len() >= FEWEST_BYTES && matches!(found.purpose, Purpose::Value | Purpose::Node) {
+    if matches!(found.purpose, Purpose::Value | Purpose::Node) {
         let names = candidates(alloc, tree, node, found.purpose)?;
-        if let Some(meant) = longer(text, &names) {
+        if let Some(meant) = alike(text, &names) {
             return Ok(Said {
                 note: "Did you mean `{}`?",
                 meant: Some(meant),

@@ -85,6 +85,13 @@ fn note_on(given: Given<'_, '_>, one: Wrapped<'_>) -> Result<String, AllocError>
         Reason::Only => format!(in given.alloc;
             "At the first instant there is no value to keep yet, so `{first}` is the one before `->`."
         ),
+        Reason::Turned => String::from_str(
+            given.alloc,
+            "Perhaps the sides of `->` are exchanged: the first value stands on its left.",
+        ),
+        Reason::Inside => format!(in given.alloc;
+            "Perhaps the `{first}` is meant as the first value: inside of `pre` it comes one instant late."
+        ),
         Reason::Known => {
             let memory = text_of(given, one.expr);
             format!(in given.alloc;

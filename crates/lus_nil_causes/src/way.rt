@@ -135,9 +135,23 @@ fn repeated(given: Given<'_, '_>, span: Span) -> Result<Option<Edit>, AllocError
     }))
 }
 
-/// Adds how the `pre` at a span is written with a first value that the source has already, and whether there is one.
-fn add_known(given: Given<'_, '_>, span: Span, finding: &mut Finding) -> Result<bool, AllocError> {
-    let (edit, note) = match turned(given, span)? {
+/// Adds how the first of some `pre` is written with a first value that the source has already, and whether there is one: sides are exchanged
+/// where there is no other `pre`.
+fn add_known(
+    given: Given<'_, '_>,
+    memories: &[Memory<'_>],
+    finding: &mut Finding,
+) -> Result<bool, AllocError> {
+    let Some(first) = memories.first() else {
+        return Ok(true);
+    };
+    let span = extent_of(given.source, first.expr);
+    let exchanged = if memories.len() == 1 {
+        turned(given, span)?
+    } else {
+        None
+    };
+    let (edit, note) = match exchanged {
         Some(edit) => (Some(edit), "The first value stands on the left of `->`."),
         None => (
             repeated(given, span)?,
@@ -316,11 +330,7 @@ pub fn add_way<'t>(
     finding: &mut Finding,
 ) -> Result<(), AllocError> {
     let ways = ways_from(given, from, finding)?;
-    let is_told = match ways.memories.first() {
-        Some(first) => add_known(given, extent_of(given.source, first.expr), finding)?,
-        None => true,
-    };
-    if !is_told {
+    if !add_known(given, &ways.memories, finding)? {
         add_first_values(given, &ways.memories, finding)?;
     }
     note_through_branch(given.alloc, finding, ways.is_computed)

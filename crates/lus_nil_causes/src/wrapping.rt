@@ -23,6 +23,10 @@ pub enum Reason {
     Same,
     /// The same `pre` has it elsewhere.
     Known,
+    /// It stands on the right of its `->`.
+    Turned,
+    /// It stands inside of the `pre`.
+    Inside,
 }
 
 /// An expression that uses a variable whose equation a `pre` stands in.
@@ -40,7 +44,15 @@ pub struct Memory<'t> {
     pub user: Option<User<'t>>,
 }
 
-/// What gets a first value by `->`, that value, and the expression that it is compared in.
+/// Bytes of a source.
+#[derive(Clone, Copy)]
+pub struct Cut {
+    pub from: usize,
+    pub to: usize,
+}
+
+/// What gets a first value by `->`, that value, and the expression that it is compared in; and where the value stands that goes from there
+/// with its `->`.
 #[derive(Clone, Copy)]
 pub struct Wrapped<'t> {
     pub expr: &'t Expr,
@@ -48,6 +60,7 @@ pub struct Wrapped<'t> {
     pub whole: &'t Expr,
     pub first: &'t str,
     pub reason: Reason,
+    pub cut: Option<Cut>,
 }
 
 /// What a comparison of a value with its earlier one gives where nothing has changed; nothing of other operators.
@@ -88,6 +101,7 @@ fn compared<'t>(given: Given<'_, 't>, expr: &'t Expr) -> Option<Wrapped<'t>> {
             whole: expr,
             first,
             reason: Reason::Unchanged,
+            cut: None,
         });
     }
     None
@@ -136,6 +150,7 @@ fn extreme<'t>(given: Given<'_, 't>, expr: &'t Expr, memory: &'t Expr) -> Option
         whole: expr,
         first: slice_of(given.source, extent_of(given.source, value)),
         reason: Reason::Only,
+        cut: None,
     })
 }
 
@@ -150,6 +165,7 @@ fn field<'t>(given: Given<'_, 't>, expr: &'t Expr) -> Option<Wrapped<'t>> {
         whole: expr,
         first: first_value(given.tree, given.flags.node, expr)?,
         reason: Reason::Placeholder,
+        cut: None,
     })
 }
 
@@ -178,11 +194,13 @@ fn round<'t>(
     Ok(found.or(of_field))
 }
 
-/// The first value before what an expression remembers with it: `k` and `x` of `k -> pre x` and of `k fby x`.
+/// The first value before what an expression remembers with it: `k` and `x` of `k -> pre x` and of `k fby x`, and of `pre x -> k`, whose sides
+/// are exchanged.
 fn sides_of(expr: &Expr) -> Option<(&Expr, &Expr)> {
     match expr {
-        Expr::Binary(Infix::Arrow, left, right) => match bare(right) {
-            Expr::Unary(Prefix::Pre, _, right) => Some((left, right)),
+        Expr::Binary(Infix::Arrow, left, right) => match (bare(left), bare(right)) {
+            (_, Expr::Unary(Prefix::Pre, _, kept)) => Some((left, kept)),
+            (Expr::Unary(Prefix::Pre, _, kept), _) => Some((right, kept)),
             _ => None,
         },
         Expr::Binary(Infix::Fby, left, right) => Some((left, right)),
@@ -208,6 +226,60 @@ fn known<'t>(given: Given<'_, 't>, memory: &'t Expr) -> Result<Option<&'t str>, 
         }
     }
     Ok(None)
+}
+
+/// The left side of an `->` in an expression that is a `pre`, with the value on its right, which is meant as the first one.
+fn turned<'t>(
+    given: Given<'_, 't>,
+    whole: &'t Expr,
+    memory: &'t Expr,
+) -> Result<Option<Wrapped<'t>>, AllocError> {
+    let span = extent_of(given.source, memory);
+    for expr in &expressions_in(given.alloc, whole)? {
+        if let Expr::Binary(Infix::Arrow, left, right) = *expr
+            && is_same(extent_of(given.source, bare(left)), span)
+            && is_plain(right)
+        {
+            let right = extent_of(given.source, right);
+            return Ok(Some(Wrapped {
+                expr: left,
+                within: memory,
+                whole,
+                first: slice_of(given.source, right),
+                reason: Reason::Turned,
+                cut: Some(Cut {
+                    from: extent_of(given.source, left).end().byte,
+                    to: right.end().byte,
+                }),
+            }));
+        }
+    }
+    Ok(None)
+}
+
+/// A `pre` of an `->`, whose first value is meant as that of the `pre`.
+fn opened<'t>(given: Given<'_, 't>, whole: &'t Expr, memory: &'t Expr) -> Option<Wrapped<'t>> {
+    let Expr::Unary(Prefix::Pre, _, kept) = memory else {
+        return None;
+    };
+    let Expr::Binary(Infix::Arrow, left, right) = bare(kept) else {
+        return None;
+    };
+    if !is_plain(left) {
+        return None;
+    }
+    let first = extent_of(given.source, left);
+    Some(Wrapped {
+        expr: memory,
+        within: memory,
+        whole,
+        first: slice_of(given.source, first),
+        reason: Reason::Inside,
+        cut: Some(Cut {
+            from: first.start.byte,
+            to: extent_of(given.source, right).start.byte,
+        }),
+    })
 }
 
 /// Whether two expressions read alike.
@@ -298,6 +370,7 @@ fn with_placeholder<'t>(
         whole,
         first,
         reason,
+        cut: None,
     }))
 }
 
@@ -307,6 +380,10 @@ pub fn wrapping_of<'t>(
     memory: Memory<'t>,
 ) -> Result<Option<Wrapped<'t>>, AllocError> {
     let (whole, expr) = (memory.whole, memory.expr);
+    let moved = turned(given, whole, expr)?.or(opened(given, whole, expr));
+    if moved.is_some() {
+        return Ok(moved);
+    }
     if let Some(found) = round(given, whole, expr)? {
         return Ok(Some(found));
     }
@@ -322,5 +399,6 @@ pub fn wrapping_of<'t>(
         whole,
         first,
         reason,
+        cut: None,
     }))
 }

@@ -83,42 +83,44 @@ fn place_among(edits: &[Edit], edit: &Edit) -> usize
     edits.len()
 }
 
-/// Puts a text at a byte among other changes.
-fn put(edits: &mut Vec<Edit>, byte: usize, text: String) -> Result<(), AllocError> {
-    let edit = Edit {
-        byte,
-        length: 0,
-        text,
-    };
+/// Puts a text in the place of so many bytes among other changes.
+fn put(edits: &mut Vec<Edit>, byte: usize, length: usize, text: String) -> Result<(), AllocError> {
+    let edit = Edit { byte, length, text };
     let place = place_among(edits, &edit);
     edits.insert(place, edit)?;
     Ok(())
+}
+
+/// Puts the change of a source that writes an expression with a first value among others.
+fn put_first(
+    given: Given<'_, '_>,
+    edits: &mut Vec<Edit>,
+    one: Wrapped<'_>,
+) -> Result<(), AllocError> {
+    let alloc = given.alloc;
+    let span = extent_of(given.source, one.expr);
+    let (first, start, end) = (one.first, span.start.byte, span.end().byte);
+    if let Some(cut) = one.cut {
+        put(edits, start, 0, format!(in alloc; "{first} -> ")?)?;
+        return put(
+            edits,
+            cut.from,
+            cut.to.saturating_sub(cut.from),
+            String::new(alloc),
+        );
+    }
+    if is_alone(given, span) {
+        return put(edits, start, 0, format!(in alloc; "{first} -> ")?);
+    }
+    put(edits, start, 0, format!(in alloc; "({first} -> ")?)?;
+    put(edits, end, 0, String::from_str(alloc, ")")?)
 }
 
 /// The change of a source that writes each of some expressions with a first value.
 pub fn edit_of(given: Given<'_, '_>, all: &[Wrapped<'_>]) -> Result<Option<Edit>, AllocError> {
     let mut edits = Vec::new(given.alloc);
     for one in all {
-        let span = extent_of(given.source, one.expr);
-        let first = one.first;
-        if is_alone(given, span) {
-            put(
-                &mut edits,
-                span.start.byte,
-                format!(in given.alloc; "{first} -> ")?,
-            )?;
-        } else {
-            put(
-                &mut edits,
-                span.start.byte,
-                format!(in given.alloc; "({first} -> ")?,
-            )?;
-            put(
-                &mut edits,
-                span.end().byte,
-                String::from_str(given.alloc, ")")?,
-            )?;
-        }
+        put_first(given, &mut edits, *one)?;
     }
     joined(given.alloc, given.source, &edits)
 }
