@@ -94,6 +94,58 @@ fn origin_in_parts<'t>(
     None
 }
 
+/// Adds each part of an expression from which a nil comes, where these variables may be nil.
+#[cycle(all_origins)]
+fn add_origins<'t>(
+    raised: &IndexSet<&'t str>,
+    found: &mut Vec<Origin<'t>>,
+    expr: &'t Expr,
+    is_computed: bool,
+) -> Result<(), AllocError> {
+    match expr {
+        Expr::Number(_, _) | Expr::Truth(_, _) | Expr::Call(_, _) | Expr::Merge(_, _, _) => Ok(()),
+        Expr::Name(name) => {
+            if raised.contains(&name.text.as_str()) {
+                found.push(Origin { expr, is_computed })?;
+            }
+            Ok(())
+        }
+        Expr::Structure(_, parts) | Expr::Variadic(_, _, parts) => {
+            add_origins_in_parts(raised, found, parts, is_computed)
+        }
+        Expr::Unary(Prefix::Pre, _, _) => Ok(found.push(Origin { expr, is_computed })?),
+        Expr::Field(operand, _)
+        | Expr::Parentheses(_, operand)
+        | Expr::When(operand, _)
+        | Expr::Unary(_, _, operand)
+        | Expr::Binary(Infix::Fby | Infix::Arrow, operand, _) => {
+            add_origins(raised, found, operand, is_computed)
+        }
+        Expr::Binary(_, left, right) => {
+            add_origins(raised, found, left, is_computed)?;
+            add_origins(raised, found, right, is_computed)
+        }
+        Expr::If(_, condition, left, right) => {
+            add_origins(raised, found, condition, is_computed)?;
+            add_origins(raised, found, left, true)?;
+            add_origins(raised, found, right, true)
+        }
+    }
+}
+
+#[cycle(all_origins)]
+fn add_origins_in_parts<'t>(
+    raised: &IndexSet<&'t str>,
+    found: &mut Vec<Origin<'t>>,
+    parts: &'t [Part],
+    is_computed: bool,
+) -> Result<(), AllocError> {
+    for part in parts {
+        add_origins(raised, found, &part.value, is_computed)?;
+    }
+    Ok(())
+}
+
 /// Raises the variables whose equations may give nil. Says whether any was raised that wasn't.
 fn raise<'t>(
     raised: &mut IndexSet<&'t str>,
@@ -125,6 +177,13 @@ impl<'t> Flags<'t> {
     /// The first part of an expression from which a nil comes: there is one where the expression may be nil.
     pub fn origin(&self, expr: &'t Expr) -> Option<Origin<'t>> {
         origin_in(&self.raised, &[], expr)
+    }
+
+    /// Each part of an expression from which a nil comes, in the order of the source.
+    pub fn origins(&self, alloc: Global, expr: &'t Expr) -> Result<Vec<Origin<'t>>, AllocError> {
+        let mut found = Vec::new(alloc);
+        add_origins(&self.raised, &mut found, expr, false)?;
+        Ok(found)
     }
 
     /// The first such part, where the `pre` at some bytes have a first value.

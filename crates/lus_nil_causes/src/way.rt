@@ -1,15 +1,18 @@
 //! The way from a value that is wanted to the `pre` that has none.
 
-use crate::first::first_value;
+use crate::alike::is_plain;
 use crate::flags::Flags;
+use crate::notes::{note_of, note_on_structure};
+use crate::wrapping::{Memory, User};
+use crate::writing::{all_wrapped, edit_of, with_inner};
 use lus_faults::{
-    Edit, Exchanged, Finding, bytes_at, expressions_in, extent_of, is_fixed, slice_of, start_of,
+    Edit, Exchanged, Finding, bytes_at, expressions_in, extent_of, is_fixed, slice_of,
 };
 use lus_syntax::{Expr, Infix, Prefix, Span, Tree};
 use std::alloc::{AllocError, Global};
 
-/// How many variables a way is followed through, and how many `pre` of one expression are written anew.
-const MOST_STEPS: usize = 20;
+/// How many right sides ways go through, and how many `pre` are written anew.
+pub const MOST_STEPS: usize = 20;
 
 /// What a way is looked for in.
 #[derive(Clone, Copy)]
@@ -21,7 +24,7 @@ pub struct Given<'c, 't> {
 }
 
 /// Whether a span is all that stands in its parentheses or between their commas, or on the right of an equation.
-fn is_alone(given: Given<'_, '_>, span: Span) -> bool {
+pub fn is_alone(given: Given<'_, '_>, span: Span) -> bool {
     let source = given.source;
     let front = bytes_at(source, 0, span.start.byte)
         .unwrap_or("")
@@ -53,69 +56,13 @@ fn push_written(
     }
 }
 
-/// How all of some `pre` are written with a first value, which stand one behind the other.
-fn edit_of(given: Given<'_, '_>, memories: &[&Expr]) -> Result<Option<Edit>, AllocError> {
-    let mut text = String::new(given.alloc);
-    let mut start = None;
-    let mut end = 0;
-    for memory in memories {
-        let span = extent_of(given.source, memory);
-        let Some(first) = first_value(given.tree, given.flags.node, memory) else {
-            return Ok(None);
-        };
-        if start.is_none() {
-            start = Some(span.start.byte);
-        } else {
-            text.push_str(bytes_at(given.source, end, span.start.byte).unwrap_or(""))?;
-        }
-        push_written(given, &mut text, first, span)?;
-        end = span.end().byte;
-    }
-    let Some(byte) = start else {
-        return Ok(None);
-    };
-    let length = end.saturating_sub(byte);
-    Ok(Some(Edit { byte, length, text }))
-}
-
-/// The `pre` in an expression from which a nil comes; the first alone, where it may also come from a variable.
-fn memories_in<'t>(
-    given: Given<'_, 't>,
-    whole: &'t Expr,
-    first: &'t Expr,
-) -> Result<Vec<&'t Expr>, AllocError> {
-    let mut memories = Vec::new(given.alloc);
-    let mut places = Vec::new(given.alloc);
-    memories.push(first)?;
-    places.push(start_of(first).byte)?;
-    for _turn in 1..MOST_STEPS {
-        match given.flags.origin_beside(&places, whole) {
-            Some(origin) if !matches!(origin.expr, Expr::Name(_)) => {
-                memories.push(origin.expr)?;
-                places.push(start_of(origin.expr).byte)?;
-            }
-            Some(_) => {
-                memories.truncate(1);
-                return Ok(memories);
-            }
-            None => return Ok(memories),
-        }
-    }
-    Ok(memories)
-}
-
-/// Whether an expression is written before `->` as it stands: a name or a value.
-fn is_plain(expr: &Expr) -> bool {
-    matches!(expr, Expr::Name(_) | Expr::Number(_, _) | Expr::Truth(_, _))
-}
-
 /// Whether two spans are one.
-fn is_same(one: Span, other: Span) -> bool {
+pub fn is_same(one: Span, other: Span) -> bool {
     one.start.byte == other.start.byte && one.length == other.length
 }
 
 /// Whether a span lies in another one.
-fn is_within(inner: Span, outer: Span) -> bool {
+pub fn is_within(inner: Span, outer: Span) -> bool {
     outer.start.byte <= inner.start.byte && inner.end().byte <= outer.end().byte
 }
 
@@ -205,80 +152,176 @@ fn add_known(given: Given<'_, '_>, span: Span, finding: &mut Finding) -> Result<
     Ok(true)
 }
 
-/// Adds the `pre` in an expression that have no first value, and how they would be written.
-fn add_memories<'t>(
-    given: Given<'_, 't>,
+/// The ways from a value that is wanted: the right sides that they go through, and the `pre` without a first value at their ends.
+#[derive(Drop)]
+struct Ways<'t> {
+    steps: Vec<Step<'t>>,
+    memories: Vec<Memory<'t>>,
+    is_computed: bool,
+}
+
+/// A right side on a way, and what uses its variable.
+#[derive(Clone, Copy)]
+struct Step<'t> {
     whole: &'t Expr,
-    first: &'t Expr,
+    user: Option<User<'t>>,
+}
+
+/// Whether a right side is on the ways already.
+fn is_known(given: Given<'_, '_>, ways: &Ways<'_>, whole: &Expr) -> bool {
+    let span = extent_of(given.source, whole);
+    ways.steps
+        .iter()
+        .any(|step| is_same(extent_of(given.source, step.whole), span))
+}
+
+/// Goes on with the equation of a variable that may be nil, unless that is on the ways already.
+fn follow<'t>(
+    given: Given<'_, 't>,
+    ways: &mut Ways<'t>,
+    user: User<'t>,
     finding: &mut Finding,
 ) -> Result<(), AllocError> {
-    let memories = memories_in(given, whole, first)?;
-    for memory in &memories {
-        let span = extent_of(given.source, memory);
-        let text = slice_of(given.source, span);
-        let label = format!(in given.alloc; "`{text}` has no value at the first instant")?;
-        finding.relate(span, label)?;
-    }
-    if add_known(given, extent_of(given.source, first), finding)? {
+    let text = user.name.text.as_str();
+    let Some(whole) = given.flags.right_of(text) else {
+        return Ok(());
+    };
+    if is_known(given, ways, whole) {
         return Ok(());
     }
-    finding.edit = edit_of(given, &memories)?;
+    let label = format!(in given.alloc; "`{text}` may have no value at the first instant")?;
+    finding.relate(user.name.span, label)?;
+    ways.steps.push(Step {
+        whole,
+        user: Some(user),
+    })?;
     Ok(())
 }
 
-/// Adds a step of a way: a variable, whose right side the way goes on with, or each `pre` at the end.
-fn add_step<'t>(
+/// Adds a `pre` at the end of a way.
+fn end_with<'t>(
     given: Given<'_, 't>,
-    whole: &'t Expr,
+    ways: &mut Ways<'t>,
+    step: Step<'t>,
     expr: &'t Expr,
     finding: &mut Finding,
-) -> Result<Option<&'t Expr>, AllocError> {
-    if let Expr::Name(name) = expr {
-        let text = name.text.as_str();
-        let label = format!(in given.alloc; "`{text}` may have no value at the first instant")?;
-        finding.relate(name.span, label)?;
-        return Ok(given.flags.right_of(text));
+) -> Result<(), AllocError> {
+    if ways.memories.len() >= MOST_STEPS {
+        return Ok(());
     }
-    add_memories(given, whole, expr, finding)?;
-    Ok(None)
+    let span = extent_of(given.source, expr);
+    let text = slice_of(given.source, span);
+    let label = format!(in given.alloc; "`{text}` has no value at the first instant")?;
+    finding.relate(span, label)?;
+    ways.memories.push(Memory {
+        expr,
+        whole: step.whole,
+        user: step.user,
+    })?;
+    Ok(())
 }
 
-/// The note on a way, which may go through a branch, and on a first value in the change that is told.
-fn note_on(is_computed: bool, is_given: bool) -> &'static str {
-    match (is_computed, is_given) {
-        (true, true) =>
-            "Both branches of an `if` are computed at every instant, the first one included. Choose the first value: the one here is a placeholder.",
-        (true, false) =>
-            "Both branches of an `if` are computed at every instant, the first one included.",
-        (false, true) => "Choose the first value: the one here is a placeholder.",
-        (false, false) => "",
+/// Adds what a nil comes from in a right side on a way.
+fn add_step<'t>(
+    given: Given<'_, 't>,
+    ways: &mut Ways<'t>,
+    step: Step<'t>,
+    finding: &mut Finding,
+) -> Result<(), AllocError> {
+    let origins = given.flags.origins(given.alloc, step.whole)?;
+    if let Some(origin) = origins.first() {
+        ways.is_computed = ways.is_computed || origin.is_computed;
     }
+    for origin in &origins {
+        match origin.expr {
+            Expr::Name(name) => {
+                let user = User {
+                    expr: step.whole,
+                    name,
+                };
+                follow(given, ways, user, finding)?;
+            }
+            expr => end_with(given, ways, step, expr, finding)?,
+        }
+    }
+    Ok(())
 }
 
-/// Adds the way from an expression to the `pre` without a first value, and how that would be written with one.
+/// The ways from an expression that may be nil.
+fn ways_from<'t>(
+    given: Given<'_, 't>,
+    from: &'t Expr,
+    finding: &mut Finding,
+) -> Result<Ways<'t>, AllocError> {
+    let mut ways = Ways {
+        steps: Vec::new(given.alloc),
+        memories: Vec::new(given.alloc),
+        is_computed: false,
+    };
+    ways.steps.push(Step {
+        whole: from,
+        user: None,
+    })?;
+    for turn in 0..MOST_STEPS {
+        let Some(step) = ways.steps.get(turn).copied() else {
+            break;
+        };
+        add_step(given, &mut ways, step, finding)?;
+    }
+    Ok(ways)
+}
+
+/// Adds how some `pre` are written with first values.
+fn add_first_values<'t>(
+    given: Given<'_, 't>,
+    memories: &[Memory<'t>],
+    finding: &mut Finding,
+) -> Result<(), AllocError> {
+    let memories = with_inner(given, memories)?;
+    match all_wrapped(given, &memories)? {
+        Some(all) => {
+            finding.edit = edit_of(given, &all)?;
+            finding.note = note_of(given, &all)?;
+        }
+        None => finding.note = note_on_structure(given, &memories)?,
+    }
+    Ok(())
+}
+
+/// Puts before a note what is said of a way that goes through a branch.
+fn note_through_branch(
+    alloc: Global,
+    finding: &mut Finding,
+    is_computed: bool,
+) -> Result<(), AllocError> {
+    if !is_computed {
+        return Ok(());
+    }
+    let mut note = String::from_str(
+        alloc,
+        "Both branches of an `if` are computed at every instant, the first one included.",
+    )?;
+    if let Some(behind) = &finding.note {
+        note.push_str(" ")?;
+        note.push_str(behind.as_str())?;
+    }
+    finding.note = Some(note);
+    Ok(())
+}
+
+/// Adds the ways from an expression to each `pre` without a first value, and how these would be written with one.
 pub fn add_way<'t>(
     given: Given<'_, 't>,
     from: &'t Expr,
     finding: &mut Finding,
 ) -> Result<(), AllocError> {
-    let mut current = Some(from);
-    let mut is_computed = false;
-    for _step in 0..MOST_STEPS {
-        let Some(expr) = current else {
-            break;
-        };
-        let Some(origin) = given.flags.origin(expr) else {
-            break;
-        };
-        is_computed = is_computed || origin.is_computed;
-        current = add_step(given, expr, origin.expr, finding)?;
+    let ways = ways_from(given, from, finding)?;
+    let is_told = match ways.memories.first() {
+        Some(first) => add_known(given, extent_of(given.source, first.expr), finding)?,
+        None => true,
+    };
+    if !is_told {
+        add_first_values(given, &ways.memories, finding)?;
     }
-    let note = note_on(
-        is_computed,
-        finding.note.is_none() && finding.edit.is_some(),
-    );
-    if !note.is_empty() {
-        finding.note = Some(String::from_str(given.alloc, note)?);
-    }
-    Ok(())
+    note_through_branch(given.alloc, finding, ways.is_computed)
 }
