@@ -1,6 +1,7 @@
 //! How an expression comes to the clock of its place.
 
 use crate::clock::Clock;
+use crate::completing::{are_beside, value_of_its_type};
 use crate::exchanging::{counterpart, exchanged, merged_by, name_of, other_variable};
 use crate::lacking::{is_right, left_of};
 use crate::mending::Context;
@@ -33,9 +34,16 @@ fn instants_of(alloc: Global, clock: Clock<'_>) -> Result<String, AllocError> {
 }
 
 /// What is said of clocks that no single test leads between.
-fn note_on(alloc: Global, found: Misplaced<'_>) -> Result<String, AllocError> {
+fn note_on(alloc: Global, on: Context<'_>, found: Misplaced<'_>) -> Result<String, AllocError> {
     let has = instants_of(alloc, found.has)?;
     let wanted = instants_of(alloc, found.wanted)?;
+    if are_beside(on.clocks, found.has, found.wanted)
+        && let Some(value) = value_of_its_type(on.clocks, found.expr)
+    {
+        return format!(in alloc;
+            "There is a value here {has}, and one is needed {wanted}: perhaps both are to be the same. Else a `merge` gives it one at the other instants, for which the `{value}` is a placeholder, and `when` takes those that are needed."
+        );
+    }
     format!(in alloc;
         "There is a value here {has}, and one is needed {wanted}. Both need the same instants: `when` drops some of a value's, and `merge` joins values of different ones."
     )
@@ -114,7 +122,7 @@ pub fn advice_on(
             alloc,
             "Give it a value at the other instants with `merge`, or declare the left side on its clock.",
         ),
-        None => note_on(alloc, found),
+        None => note_on(alloc, on, found),
     }
 }
 

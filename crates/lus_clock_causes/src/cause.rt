@@ -14,7 +14,7 @@ use crate::redeclaring::{
     declaration_with_users,
 };
 use crate::unnamed::unnamed_clock;
-use lus_faults::{Finding, Sought, extent_of, slice_of, start_of};
+use lus_faults::{Finding, Sought, bytes_at, extent_of, slice_of, start_of};
 use lus_syntax::{Expr, Name, Refusal, Tree};
 use std::alloc::{AllocError, Global};
 
@@ -125,7 +125,9 @@ fn told_of_place(
         left => left,
     };
     if let Some(edit) = chosen(alloc, on, found)? {
-        let is_first_chosen = edit.text.as_str().contains("-> pre ");
+        let before = bytes_at(on.source, edit.byte, edit.byte.saturating_add(edit.length));
+        let is_first_chosen = edit.text.as_str().contains("-> pre ")
+            && !before.unwrap_or("").contains("-> pre ");
         finding.note = Some(note_on_chosen(alloc, on, found, is_first_chosen)?);
         return Ok(finding.with_edit(Some(edit)));
     }
@@ -175,7 +177,9 @@ fn note_on_chosen(
         "An `if` computes both values at every instant. A `merge` chooses between values that are there at different instants.",
     )?;
     if is_first_chosen {
-        note.push_str(" What stands before `->` is the value at the first instant, a placeholder: choose your own.")?;
+        note.push_str(
+            " What stands before `->` is the value at the first instant, a placeholder: choose your own.",
+        )?;
     }
     if let Expr::When(operand, _) = bare(found.expr) {
         let span = extent_of(on.source, operand);

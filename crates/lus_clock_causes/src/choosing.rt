@@ -66,9 +66,8 @@ fn is_unsampled(on: Context<'_>, expr: &Expr, parts: &[&Expr], tick: Tick<'_>) -
         return false;
     };
     has.is(wanted)
-        && !parts
-            .iter()
-            .any(|part| matches!(**part, Expr::When(_, _)) && is_in(on.source, expr, *part))
+        && !parts.iter().any(|part| matches!(**part, Expr::When(_, _))
+            && is_in(on.source, expr, *part))
 }
 
 /// A value in which some are sampled already, with the others sampled too.
@@ -153,7 +152,12 @@ struct Sides<'t> {
 }
 
 /// The branches of an `if` by a variable, one of which is an expression that is there at that branch's instants.
-fn sides_of<'t>(on: Context<'_>, expr: &'t Expr, tick: Tick<'_>, found: &Expr) -> Option<Sides<'t>> {
+fn sides_of<'t>(
+    on: Context<'_>,
+    expr: &'t Expr,
+    tick: Tick<'_>,
+    found: &Expr,
+) -> Option<Sides<'t>> {
     let Expr::If(_, condition, left, right) = expr else {
         return None;
     };

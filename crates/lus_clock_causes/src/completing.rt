@@ -1,10 +1,11 @@
 //! An expression that is on a slower clock than its place, and how a `merge` completes it.
 
-use crate::clock::{Clocks, Tick};
+use crate::clock::{Clock, Clocks, Tick};
 use crate::mending::Context;
 use crate::placing::{Misplaced, bare};
 use crate::sampling::is_whole;
 use lus_faults::{Edit, Plain, bytes_at, extent_of, resolved, slice_of, value_of, variable_named};
+use lus_nil_causes::literal_of;
 use lus_plain_types::plain_type;
 use lus_syntax::{Definition, Equation, Expr, Name};
 use std::alloc::{AllocError, Global};
@@ -33,6 +34,18 @@ pub fn value_of_variable<'t>(clocks: Clocks<'t>, name: &str) -> Option<&'t str> 
 /// A value of the type of an expression, where its variables or its operators tell it: `0`, `false` or a constructor.
 pub fn value_of_its_type<'t>(clocks: Clocks<'t>, expr: &Expr) -> Option<&'t str> {
     value_of(plain_type(clocks.tree, clocks.node, expr)?)
+}
+
+/// A value of the type of an expression that is a structure.
+pub fn structure_of_its_type(
+    alloc: Global,
+    clocks: Clocks<'_>,
+    expr: &Expr,
+) -> Result<Option<String>, AllocError> {
+    match plain_type(clocks.tree, clocks.node, expr) {
+        Some(of) => literal_of(alloc, clocks.tree, of),
+        None => Ok(None),
+    }
 }
 
 /// The name of a type.
@@ -196,4 +209,57 @@ pub fn completed_round(
         text: format!(in alloc; "{behind}{close}")?,
     };
     Ok(Some((first, second)))
+}
+
+/// Whether two clocks test variables that are on one clock.
+pub fn are_beside(clocks: Clocks<'_>, one: Clock<'_>, other: Clock<'_>) -> bool {
+    let (Some(one), Some(other)) = (one.newest, other.newest) else {
+        return false;
+    };
+    match (
+        clocks.clock(one.variable.text.as_str()),
+        clocks.clock(other.variable.text.as_str()),
+    ) {
+        (Some(first), Some(second)) => first.is(second),
+        _ => false,
+    }
+}
+
+/// The change of a source that completes an expression by a `merge` and then samples it as its place is, where one clock has both tests.
+pub fn completed_and_sampled(
+    alloc: Global,
+    on: Context<'_>,
+    found: Misplaced<'_>,
+) -> Result<Option<Edit>, AllocError> {
+    let (Some(has), Some(wanted), None, Some(value)) = (
+        found.has.newest,
+        found.wanted.newest,
+        found.memory,
+        value_of_its_type(on.clocks, found.expr),
+    ) else {
+        return Ok(None);
+    };
+    if !are_beside(on.clocks, found.has, found.wanted) {
+        return Ok(None);
+    }
+    let span = extent_of(on.source, found.expr);
+    let branches = Branches {
+        inner: slice_of(on.source, extent_of(on.source, bare(found.expr))),
+        value,
+        held: None,
+    };
+    let Some(merged) = merged(alloc, on.clocks, has, branches)? else {
+        return Ok(None);
+    };
+    let test = wanted.test(alloc)?;
+    let text = if is_whole(alloc, on.source, on.equation, span)? {
+        format!(in alloc; "({merged}) when {test}")?
+    } else {
+        format!(in alloc; "(({merged}) when {test})")?
+    };
+    Ok(Some(Edit {
+        byte: span.start.byte,
+        length: span.length,
+        text,
+    }))
 }

@@ -70,11 +70,7 @@ fn at<'t>(source: &str, all: &[Misplaced<'t>], expr: &Expr) -> Option<Misplaced<
 }
 
 /// The variable whose value each branch of a `merge` is there for that isn't a value by itself, by its own label.
-fn tested_by_all<'t>(
-    on: Context<'_>,
-    parts: &[Part],
-    all: &[Misplaced<'t>],
-) -> Option<&'t Name> {
+fn tested_by_all<'t>(on: Context<'_>, parts: &[Part], all: &[Misplaced<'t>]) -> Option<&'t Name> {
     let mut tested: Option<&'t Name> = None;
     for part in parts {
         let Lead::Branch(_, label) = &part.lead else {
@@ -129,8 +125,7 @@ fn is_alike(on: Context<'_>, one: &Name, other: &Name) -> bool {
         on.clocks.clock(one.text.as_str()),
         on.clocks.clock(other.text.as_str()),
     ) {
-        (Some(clock), Some(wanted)) => clock.is(wanted)
-            && one.text.as_str() != other.text.as_str(),
+        (Some(clock), Some(wanted)) => clock.is(wanted) && one.text.as_str() != other.text.as_str(),
         _ => false,
     }
 }

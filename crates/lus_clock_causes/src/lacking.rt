@@ -1,11 +1,11 @@
 //! An expression that has no value at some instants of its place: which other ways there are than a value that is made up.
 
 use crate::clock::Tick;
-use crate::completing::{Branches, merged, type_name_of, value_of_its_type};
-use crate::remembering::told_of_memory;
+use crate::completing::{Branches, merged, structure_of_its_type, type_name_of, value_of_its_type};
 use crate::mending::{Context, mended};
 use crate::placing::{Misplaced, bare};
 use crate::redeclaring::{Redeclared, may_be_declared};
+use crate::remembering::told_of_memory;
 use lus_declarations::type_span;
 use lus_faults::{Finding, Variable, extent_of, slice_of, start_of, variable_named};
 use lus_syntax::{Expr, Name};
@@ -258,6 +258,22 @@ fn told_with(
     Ok(finding)
 }
 
+/// What is said of an expression that has no value at some instants of its place, with a value of its type as it is written.
+fn told_lacking(
+    alloc: Global,
+    on: Context<'_>,
+    finding: Finding,
+    found: Misplaced<'_>,
+    all: &[Misplaced<'_>],
+    lacking: Lacking<'_>,
+    declared: Option<Redeclared<'_>>,
+) -> Result<Finding, AllocError> {
+    match found.memory {
+        Some(memory) => told_of_memory(alloc, on, finding, found, lacking, memory),
+        None => told_with(alloc, on, finding, found, all, lacking, declared),
+    }
+}
+
 /// What is said of an expression that has no value at some instants of its place; the finding as it is where one test doesn't lead from the
 /// one clock to the other, or no value of its type is known. The variable on the left may be declared otherwise.
 pub fn told_of_lacking<'t>(
@@ -268,19 +284,23 @@ pub fn told_of_lacking<'t>(
     all: &[Misplaced<'_>],
     declared: Option<Redeclared<'t>>,
 ) -> Result<Finding, AllocError> {
-    let (Some(tick), Some(value)) = (
-        on.clocks.leading(found.wanted, found.has),
-        value_of_its_type(on.clocks, found.expr),
-    ) else {
+    let Some(tick) = on.clocks.leading(found.wanted, found.has) else {
         return Ok(finding);
     };
-    let lacking = Lacking {
-        tick,
-        inner: slice_of(on.source, extent_of(on.source, bare(found.expr))),
-        value,
-    };
-    match found.memory {
-        Some(memory) => told_of_memory(alloc, on, finding, found, lacking, memory),
-        None => told_with(alloc, on, finding, found, all, lacking, declared),
+    let inner = slice_of(on.source, extent_of(on.source, bare(found.expr)));
+    if let Some(value) = value_of_its_type(on.clocks, found.expr) {
+        let lacking = Lacking { tick, inner, value };
+        return told_lacking(alloc, on, finding, found, all, lacking, declared);
+    }
+    match structure_of_its_type(alloc, on.clocks, found.expr)? {
+        Some(text) => {
+            let lacking = Lacking {
+                tick,
+                inner,
+                value: text.as_str(),
+            };
+            told_lacking(alloc, on, finding, found, all, lacking, declared)
+        }
+        None => Ok(finding),
     }
 }

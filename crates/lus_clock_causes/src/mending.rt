@@ -3,8 +3,8 @@
 ghost use Rattle.std.specs.Prelude.{◌≤◌, length};
 
 use crate::clock::Clocks;
-use crate::completing::{completed, completed_round};
-use crate::placing::Misplaced;
+use crate::completing::{completed, completed_and_sampled, completed_round};
+use crate::placing::{Misplaced, bare};
 use crate::sampling::{is_sampled_otherwise, resampled, sampled};
 use lus_faults::{Edit, extent_of, joined};
 use lus_syntax::{Equation, Expr};
@@ -40,7 +40,7 @@ fn change_of(
     }
     match on.clocks.leading(found.wanted, found.has) {
         Some(tick) => completed(alloc, on.source, on.clocks, on.equation, found, tick),
-        None => Ok(None),
+        None => completed_and_sampled(alloc, on, found),
     }
 }
 
@@ -86,8 +86,9 @@ fn changes_round(
     found: Misplaced<'_>,
     all: &[Misplaced<'_>],
 ) -> Result<Option<(Edit, Edit)>, AllocError> {
-    let has_others = all.iter().any(|other| is_in(on.source, other.expr, found.expr)
-        && !is_in(on.source, found.expr, other.expr));
+    let inner = bare(found.expr);
+    let has_others = all.iter().any(|other| is_in(on.source, other.expr, inner)
+        && !is_in(on.source, inner, other.expr));
     match on.clocks.leading(found.wanted, found.has) {
         Some(tick) if has_others => completed_round(alloc, on, found, tick),
         _ => Ok(None),
@@ -115,7 +116,7 @@ pub fn mended(
     }
     for other in all {
         if edits.len() < MOST_CHANGES
-            && !is_in(on.source, found.expr, other.expr)
+            && !is_in(on.source, bare(found.expr), other.expr)
             && let Some(edit) = change_of(alloc, on, *other)?
         {
             insert(&mut edits, edit)?;

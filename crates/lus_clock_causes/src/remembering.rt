@@ -113,9 +113,7 @@ pub fn told_of_memory(
         && let Some(variable) = may_be_declared(on, left, found)
     {
         let other = "what else it is computed from";
-        note.push_str(
-            declared_so(alloc, on, variable, lacking.tick, other)?.as_str(),
-        )?;
+        note.push_str(declared_so(alloc, on, variable, lacking.tick, other)?.as_str())?;
     }
     let mut finding = finding;
     finding.note = Some(note);

@@ -29,12 +29,7 @@ fn first_byte(bytes: &[u8]) -> u8 {
 }
 
 /// Whether a span is the value of a branch of a `merge` in an expression.
-fn is_branch(
-    alloc: Global,
-    source: &str,
-    right: &Expr,
-    span: Span,
-) -> Result<bool, AllocError> {
+fn is_branch(alloc: Global, source: &str, right: &Expr, span: Span) -> Result<bool, AllocError> {
     for expr in &expressions_in(alloc, right)? {
         if let Expr::Merge(_, _, parts) = *expr {
             for part in parts {

@@ -21,8 +21,7 @@ pub fn is_earlier(source: &str, expr: &Expr, other: &Expr) -> bool {
                 || is_earlier(source, inner, other)
         }
         Expr::Field(operand, name) => match bare(other) {
-            Expr::Field(other_operand, other_name) => name.text.as_str()
-                == other_name.text.as_str()
+            Expr::Field(other_operand, other_name) => name.text.as_str() == other_name.text.as_str()
                 && is_earlier(source, operand, other_operand),
             _ => false,
         },

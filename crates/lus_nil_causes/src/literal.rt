@@ -25,11 +25,7 @@ fn push_fields(tree: &Tree, text: &mut String, group: &Fields) -> Result<bool, A
 }
 
 /// A value of a structure, as it is written; nothing of other types, and where a field is a structure itself.
-pub fn literal_of(
-    alloc: Global,
-    tree: &Tree,
-    of: Plain<'_>,
-) -> Result<Option<String>, AllocError> {
+pub fn literal_of(alloc: Global, tree: &Tree, of: Plain<'_>) -> Result<Option<String>, AllocError> {
     let Plain::Declared(_, declaration) = of else {
         return Ok(None);
     };

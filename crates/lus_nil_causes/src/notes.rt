@@ -39,10 +39,7 @@ fn own_variable<'t>(given: Given<'_, 't>, whole: &'t Expr, memory: &'t Expr) -> 
 }
 
 /// The note on a placeholder, with how a variable that is computed from its own earlier value gets a first value of its own.
-fn note_on_placeholder(
-    given: Given<'_, '_>,
-    one: Wrapped<'_>,
-) -> Result<String, AllocError> {
+fn note_on_placeholder(given: Given<'_, '_>, one: Wrapped<'_>) -> Result<String, AllocError> {
     let (first, whole) = (one.first, one.whole);
     let mut note = format!(in given.alloc;
         "Before `->` stands the value at the first instant: the `{first}` is a placeholder, choose your own."
@@ -98,10 +95,7 @@ fn note_on(given: Given<'_, '_>, one: Wrapped<'_>) -> Result<String, AllocError>
 }
 
 /// The note on first values: on the first of them, and on one that is a placeholder.
-pub fn note_of(
-    given: Given<'_, '_>,
-    all: &[Wrapped<'_>],
-) -> Result<Option<String>, AllocError> {
+pub fn note_of(given: Given<'_, '_>, all: &[Wrapped<'_>]) -> Result<Option<String>, AllocError> {
     let Some(one) = all.first() else {
         return Ok(None);
     };
@@ -110,7 +104,10 @@ pub fn note_of(
         for other in all {
             if matches!(other.reason, Reason::Placeholder) {
                 let first = other.first;
-                write!(note, " The `{first}` before the other `->` is a placeholder, choose your own.")?;
+                write!(
+                    note,
+                    " The `{first}` before the other `->` is a placeholder, choose your own."
+                )?;
                 return Ok(Some(note));
             }
         }

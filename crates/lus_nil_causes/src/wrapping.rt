@@ -234,11 +234,7 @@ fn edge_round<'t>(
 }
 
 /// Whether a variable is compared in an expression with what a `pre` remembers.
-fn is_compared(
-    given: Given<'_, '_>,
-    user: User<'_>,
-    kept: &Expr,
-) -> Result<bool, AllocError> {
+fn is_compared(given: Given<'_, '_>, user: User<'_>, kept: &Expr) -> Result<bool, AllocError> {
     for expr in &expressions_in(given.alloc, user.expr)? {
         if let Expr::Binary(Infix::Compute(op), left, right) = *expr
             && unchanged(*op).is_some()
@@ -276,10 +272,7 @@ fn own_value<'t>(
         && given.flags.origin(kept).is_none()
         && is_compared(given, user, kept)?
     {
-        return Ok(Some(slice_of(
-            given.source,
-            extent_of(given.source, kept),
-        )));
+        return Ok(Some(slice_of(given.source, extent_of(given.source, kept))));
     }
     Ok(None)
 }

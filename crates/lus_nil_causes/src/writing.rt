@@ -102,10 +102,22 @@ pub fn edit_of(given: Given<'_, '_>, all: &[Wrapped<'_>]) -> Result<Option<Edit>
         let span = extent_of(given.source, one.expr);
         let first = one.first;
         if is_alone(given, span) {
-            put(&mut edits, span.start.byte, format!(in given.alloc; "{first} -> ")?)?;
+            put(
+                &mut edits,
+                span.start.byte,
+                format!(in given.alloc; "{first} -> ")?,
+            )?;
         } else {
-            put(&mut edits, span.start.byte, format!(in given.alloc; "({first} -> ")?)?;
-            put(&mut edits, span.end().byte, String::from_str(given.alloc, ")")?)?;
+            put(
+                &mut edits,
+                span.start.byte,
+                format!(in given.alloc; "({first} -> ")?,
+            )?;
+            put(
+                &mut edits,
+                span.end().byte,
+                String::from_str(given.alloc, ")")?,
+            )?;
         }
     }
     joined(given.alloc, given.source, &edits)

@@ -30,10 +30,7 @@ pub fn needs_itself(node: &Node, all: &[Demand<'_>], place: usize) -> bool {
 }
 
 /// Adds the variables of an equation to others. Says whether one of them is new.
-fn add_left<'t>(
-    names: &mut IndexSet<&'t str>,
-    equation: &'t Equation,
-) -> Result<bool, AllocError> {
+fn add_left<'t>(names: &mut IndexSet<&'t str>, equation: &'t Equation) -> Result<bool, AllocError> {
     let mut has_changed = false;
     for name in &equation.left {
         has_changed |= names.insert(name.text.as_str())?;

@@ -7,7 +7,7 @@ use crate::demands::Demand;
 use crate::given::Given;
 use crate::needs::Need;
 use lus_faults::Edit;
-use lus_syntax::Node;
+use lus_syntax::{Expr, Node};
 use std::alloc::AllocError;
 
 /// Of how many equations it is told how they use values of the instant before.
@@ -63,6 +63,13 @@ fn best_of<'l, 'r>(
     Ok(fed_back.or(links.last()))
 }
 
+/// Whether a use is all of its equation: such a copy is mostly meant as the value of the instant before.
+fn is_copied(node: &Node, link: Link<'_>) -> bool {
+    node.equations.iter().any(|equation| {
+        is_among(&equation.left, link.from) && matches!(equation.right, Expr::Name(_))
+    })
+}
+
 /// Appends the place of the equation that a use stands in, unless it is there.
 fn push_place(node: &Node, places: &mut Vec<usize>, link: &Link<'_>) -> Result<(), AllocError> {
     if let Some(place) = equation_of(node, link.from)
@@ -73,8 +80,8 @@ fn push_place(node: &Node, places: &mut Vec<usize>, link: &Link<'_>) -> Result<(
     Ok(())
 }
 
-/// The places of the equations of a cycle, those first that are best changed: what is computed from itself, and so keeps its value, before
-/// the others.
+/// The places of the equations of a cycle, those first that are best changed: what is computed from itself, and so keeps its value, then what
+/// only copies another one.
 pub fn places_of(
     given: Given<'_>,
     all: &[Demand<'_>],
@@ -85,6 +92,11 @@ pub fn places_of(
         if let Some(place) = equation_of(given.node, link.from)
             && needs_itself(given.node, all, place)
         {
+            push_place(given.node, &mut places, link)?;
+        }
+    }
+    for link in links {
+        if is_copied(given.node, *link) {
             push_place(given.node, &mut places, link)?;
         }
     }
@@ -120,10 +132,10 @@ pub fn changes_of<'t>(
 /// Whether an equation uses of the instant before its own variables alone.
 pub fn is_own(given: Given<'_>, change: &Change<'_>) -> bool {
     match given.node.equations.get(change.place) {
-        Some(equation) => change
-            .demands
-            .iter()
-            .all(|demand| is_among(&equation.left, demand.name.text.as_str())),
+        Some(equation) => change.demands.iter().all(|demand| is_among(
+            &equation.left,
+            demand.name.text.as_str(),
+        )),
         None => false,
     }
 }

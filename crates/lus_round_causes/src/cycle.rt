@@ -153,11 +153,7 @@ fn note_on_fields(
 }
 
 /// What is said of a cycle through equations, by how it is broken.
-fn told_of(
-    given: Given<'_>,
-    links: &[Link<'_>],
-    told: Finding,
-) -> Result<Finding, AllocError> {
+fn told_of(given: Given<'_>, links: &[Link<'_>], told: Finding) -> Result<Finding, AllocError> {
     let all = demands_in(given.alloc, given.node)?;
     let places = places_of(given, &all, links)?;
     let Some(place) = places.first().copied() else {

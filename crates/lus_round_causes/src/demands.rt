@@ -68,11 +68,7 @@ fn root_of(expr: &Expr) -> Option<&Name> {
 
 /// Adds what an expression uses at the same instant, in the order of the source.
 #[cycle(demands)]
-fn add<'t>(
-    search: &mut Search<'t>,
-    expr: &'t Expr,
-    standing: Standing,
-) -> Result<(), AllocError> {
+fn add<'t>(search: &mut Search<'t>, expr: &'t Expr, standing: Standing) -> Result<(), AllocError> {
     match expr {
         Expr::Number(_, _) | Expr::Truth(_, _) | Expr::Unary(Prefix::Pre, _, _) => Ok(()),
         Expr::Name(name) => search.push(name, Some(expr), standing),

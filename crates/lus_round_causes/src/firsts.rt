@@ -79,13 +79,7 @@ pub fn first_value<'t>(
     let used = slice_of(given.source, extent_of(given.source, expr));
     let mut found = first_elsewhere(given, used)?;
     if found.is_none() && used == name.text.as_str() {
-        found = first_of_call(
-            given.alloc,
-            given.source,
-            given.tree,
-            given.node,
-            used,
-        )?;
+        found = first_of_call(given.alloc, given.source, given.tree, given.node, used)?;
     }
     if let Some(text) = found {
         return Ok(Some(FirstValue {

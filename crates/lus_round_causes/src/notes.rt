@@ -69,7 +69,10 @@ fn push_before(
             )?;
             let first_text = first.text;
             if first.is_placeholder {
-                write!(note, "the `{first_text}` is a placeholder, choose your own.")
+                write!(
+                    note,
+                    "the `{first_text}` is a placeholder, choose your own."
+                )
             } else {
                 write!(note, "`{first_text}` is the one that it has elsewhere.")
             }
@@ -210,10 +213,7 @@ fn note_on_structure(given: Given<'_>, demand: Demand<'_>) -> Result<Option<Stri
 }
 
 /// The note on a cycle for which no change is known.
-pub fn note_without_change(
-    given: Given<'_>,
-    demands: &[Demand<'_>],
-) -> Result<String, AllocError> {
+pub fn note_without_change(given: Given<'_>, demands: &[Demand<'_>]) -> Result<String, AllocError> {
     for demand in demands {
         if way_of(given, *demand)?.is_none()
             && let Some(note) = note_on_structure(given, *demand)?
