@@ -68,7 +68,11 @@ impl<'t> Clock<'t> {
 impl<'t> Tick<'t> {
     /// The test, as it stands behind `when`.
     pub fn test(self, alloc: Global) -> Result<String, AllocError> {
-        let variable = self.variable.text.as_str();
+        self.test_of(alloc, self.variable.text.as_str())
+    }
+
+    /// The test, as it would be of another variable.
+    pub fn test_of(self, alloc: Global, variable: &str) -> Result<String, AllocError> {
         let label = self.label;
         if label == "true" {
             return String::from_str(alloc, variable);

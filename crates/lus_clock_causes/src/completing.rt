@@ -1,12 +1,13 @@
 //! An expression that is on a slower clock than its place, and how a `merge` completes it.
 
-use crate::called::formal_at;
-use crate::clock::{Clocks, Tick};
+use crate::clock::{Clock, Clocks, Tick};
+use crate::mending::Context;
 use crate::placing::{Misplaced, bare};
 use crate::sampling::is_whole;
-use lus_faults::{Edit, Plain, extent_of, resolved, slice_of, value_of, variable_named};
-use lus_syntax::{Definition, Equation, Expr, Infix, Name, Prefix};
-use lus_values::Shape;
+use lus_faults::{Edit, Plain, bytes_at, extent_of, resolved, slice_of, value_of, variable_named};
+use lus_nil_causes::literal_of;
+use lus_plain_types::plain_type;
+use lus_syntax::{Definition, Equation, Expr, Name};
 use std::alloc::{AllocError, Global};
 
 /// How often a type's name may stand for another one, and how many branches a `merge` that is shown may have.
@@ -14,44 +15,14 @@ const MOST_ALIASES: usize = 19;
 
 const MOST_BRANCHES: usize = 8;
 
+/// The end of a branch without a value.
+const EMPTY: &str = "-> )";
+
 /// The type of a variable.
 fn type_of_variable<'t>(clocks: Clocks<'t>, name: &str) -> Option<Plain<'t>> {
     match variable_named(clocks.node, name) {
         Some(variable) => resolved(clocks.tree, &variable.group.type_name, MOST_ALIASES),
         None => None,
-    }
-}
-
-/// The innermost operand of an expression that has its type, or the expression itself.
-#[cycle(alike)]
-fn of_its_type(expr: &Expr) -> &Expr {
-    match expr {
-        Expr::Parentheses(_, operand)
-        | Expr::When(operand, _)
-        | Expr::Unary(Prefix::Pre, _, operand)
-        | Expr::Binary(Infix::Fby | Infix::Arrow, operand, _)
-        | Expr::If(_, _, operand, _) => of_its_type(operand),
-        _ => expr,
-    }
-}
-
-/// The type of an expression, where its variables or its operators tell it.
-fn type_of<'t>(clocks: Clocks<'t>, expr: &Expr) -> Option<Plain<'t>> {
-    match of_its_type(expr) {
-        Expr::Number(_, _) | Expr::Unary(Prefix::Negate, _, _) => Some(Plain::Int),
-        Expr::Truth(_, _) | Expr::Variadic(_, _, _) | Expr::Unary(Prefix::Not, _, _) => {
-            Some(Plain::Bool)
-        }
-        Expr::Name(name) => type_of_variable(clocks, name.text.as_str()),
-        Expr::Call(name, _) => {
-            let output = formal_at(&clocks.node_named(name)?.outputs, 0)?;
-            resolved(clocks.tree, &output.group.type_name, MOST_ALIASES)
-        }
-        Expr::Binary(Infix::Compute(op), _, _) => match op.shape() {
-            Shape::Int | Shape::Ints => Some(Plain::Int),
-            _ => Some(Plain::Bool),
-        },
-        _ => None,
     }
 }
 
@@ -62,16 +33,38 @@ pub fn value_of_variable<'t>(clocks: Clocks<'t>, name: &str) -> Option<&'t str> 
 
 /// A value of the type of an expression, where its variables or its operators tell it: `0`, `false` or a constructor.
 pub fn value_of_its_type<'t>(clocks: Clocks<'t>, expr: &Expr) -> Option<&'t str> {
-    value_of(type_of(clocks, expr)?)
+    value_of(plain_type(clocks.tree, clocks.node, expr)?)
+}
+
+/// A value of the type of an expression that is a structure.
+pub fn structure_of_its_type(
+    alloc: Global,
+    clocks: Clocks<'_>,
+    expr: &Expr,
+) -> Result<Option<String>, AllocError> {
+    match plain_type(clocks.tree, clocks.node, expr) {
+        Some(of) => literal_of(alloc, clocks.tree, of),
+        None => Ok(None),
+    }
+}
+
+/// The name of a type.
+fn name_of(of: Plain<'_>) -> &str {
+    match of {
+        Plain::Bool => "bool",
+        Plain::Int => "int",
+        Plain::Declared(_, declaration) => declaration.name.text.as_str(),
+    }
+}
+
+/// The name of the type of a variable.
+pub fn type_name_of_variable<'t>(clocks: Clocks<'t>, name: &str) -> Option<&'t str> {
+    Some(name_of(type_of_variable(clocks, name)?))
 }
 
 /// The name of the type of an expression, where its variables or its operators tell it.
 pub fn type_name_of<'t>(clocks: Clocks<'t>, expr: &Expr) -> Option<&'t str> {
-    match type_of(clocks, expr)? {
-        Plain::Bool => Some("bool"),
-        Plain::Int => Some("int"),
-        Plain::Declared(_, declaration) => Some(declaration.name.text.as_str()),
-    }
+    Some(name_of(plain_type(clocks.tree, clocks.node, expr)?))
 }
 
 /// The branches of a `merge`: what it completes, and a value for the other instants, or for the first of them where a variable's last value
@@ -163,10 +156,106 @@ pub fn completed<'t>(
     let Some(merged) = merged(alloc, clocks, tick, branches)? else {
         return Ok(None);
     };
-    let text = if is_whole(source, equation, span) {
+    let text = if is_whole(alloc, source, equation, span)? {
         merged
     } else {
         format!(in alloc; "({merged})")?
+    };
+    Ok(Some(Edit {
+        byte: span.start.byte,
+        length: span.length,
+        text,
+    }))
+}
+
+/// The two changes of a source that put such a `merge` round an expression, so that what stands in it can be changed too.
+pub fn completed_round(
+    alloc: Global,
+    on: Context<'_>,
+    found: Misplaced<'_>,
+    tick: Tick<'_>,
+) -> Result<Option<(Edit, Edit)>, AllocError> {
+    let (None, Some(value)) = (found.memory, value_of_its_type(on.clocks, found.expr)) else {
+        return Ok(None);
+    };
+    let branches = Branches {
+        inner: "",
+        value,
+        held: None,
+    };
+    let Some(merged) = merged(alloc, on.clocks, tick, branches)? else {
+        return Ok(None);
+    };
+    let Some(cut) = merged.as_str().find(EMPTY) else {
+        return Ok(None);
+    };
+    let cut = cut.saturating_add(EMPTY.len()).saturating_sub(1);
+    let front = bytes_at(merged.as_str(), 0, cut).unwrap_or("");
+    let behind = bytes_at(merged.as_str(), cut, merged.len()).unwrap_or("");
+    let span = extent_of(on.source, found.expr);
+    let (open, close) = if is_whole(alloc, on.source, on.equation, span)? {
+        ("", "")
+    } else {
+        ("(", ")")
+    };
+    let first = Edit {
+        byte: span.start.byte,
+        length: 0,
+        text: format!(in alloc; "{open}{front}")?,
+    };
+    let second = Edit {
+        byte: span.end().byte,
+        length: 0,
+        text: format!(in alloc; "{behind}{close}")?,
+    };
+    Ok(Some((first, second)))
+}
+
+/// Whether two clocks test variables that are on one clock.
+pub fn are_beside(clocks: Clocks<'_>, one: Clock<'_>, other: Clock<'_>) -> bool {
+    let (Some(one), Some(other)) = (one.newest, other.newest) else {
+        return false;
+    };
+    match (
+        clocks.clock(one.variable.text.as_str()),
+        clocks.clock(other.variable.text.as_str()),
+    ) {
+        (Some(first), Some(second)) => first.is(second),
+        _ => false,
+    }
+}
+
+/// The change of a source that completes an expression by a `merge` and then samples it as its place is, where one clock has both tests.
+pub fn completed_and_sampled(
+    alloc: Global,
+    on: Context<'_>,
+    found: Misplaced<'_>,
+) -> Result<Option<Edit>, AllocError> {
+    let (Some(has), Some(wanted), None, Some(value)) = (
+        found.has.newest,
+        found.wanted.newest,
+        found.memory,
+        value_of_its_type(on.clocks, found.expr),
+    ) else {
+        return Ok(None);
+    };
+    if !are_beside(on.clocks, found.has, found.wanted) {
+        return Ok(None);
+    }
+    let span = extent_of(on.source, found.expr);
+    let branches = Branches {
+        inner: slice_of(on.source, extent_of(on.source, bare(found.expr))),
+        value,
+        held: None,
+    };
+    let Some(merged) = merged(alloc, on.clocks, has, branches)? else {
+        return Ok(None);
+    };
+    let test = wanted.test(alloc)?;
+    let text = if is_whole(alloc, on.source, on.equation, span)? {
+        format!(in alloc; "({merged}) when {test}")?
+    } else {
+        format!(in alloc; "(({merged}) when {test})")?
     };
     Ok(Some(Edit {
         byte: span.start.byte,

@@ -1,10 +1,11 @@
 //! An expression that has no value at some instants of its place: which other ways there are than a value that is made up.
 
 use crate::clock::Tick;
-use crate::completing::{Branches, merged, type_name_of, value_of_its_type};
+use crate::completing::{Branches, merged, structure_of_its_type, type_name_of, value_of_its_type};
 use crate::mending::{Context, mended};
 use crate::placing::{Misplaced, bare};
 use crate::redeclaring::{Redeclared, may_be_declared};
+use crate::remembering::told_of_memory;
 use lus_declarations::type_span;
 use lus_faults::{Finding, Variable, extent_of, slice_of, start_of, variable_named};
 use lus_syntax::{Expr, Name};
@@ -12,27 +13,27 @@ use std::alloc::{AllocError, Global};
 
 /// The test at which an expression has a value, its text, and a value of its type.
 #[derive(Clone, Copy)]
-struct Lacking<'t> {
-    tick: Tick<'t>,
-    inner: &'t str,
-    value: &'t str,
+pub struct Lacking<'t> {
+    pub tick: Tick<'t>,
+    pub inner: &'t str,
+    pub value: &'t str,
 }
 
 /// The only variable on the left of the equation.
-fn left_of<'t>(on: Context<'t>) -> Option<&'t Name> {
+pub fn left_of<'t>(on: Context<'t>) -> Option<&'t Name> {
     let left = on.equation.left.first()?;
     (on.equation.left.len() == 1).then_some(left)
 }
 
 /// Whether an expression is the whole right side of the equation.
-fn is_right(on: Context<'_>, found: Misplaced<'_>) -> bool {
+pub fn is_right(on: Context<'_>, found: Misplaced<'_>) -> bool {
     start_of(bare(&on.equation.right)).byte == start_of(bare(found.expr)).byte
         && extent_of(on.source, bare(&on.equation.right)).length
             == extent_of(on.source, bare(found.expr)).length
 }
 
 /// A `merge` in which a variable holds the last value of an expression.
-fn holding(
+pub fn holding(
     alloc: Global,
     on: Context<'_>,
     lacking: Lacking<'_>,
@@ -102,7 +103,7 @@ fn told_of_declaration(
 }
 
 /// A name for a variable that holds an expression's last value, which no variable of the node has.
-fn name_for(
+pub fn name_for(
     alloc: Global,
     on: Context<'_>,
     found: Misplaced<'_>,
@@ -122,7 +123,7 @@ fn name_for(
 }
 
 /// How the variable on the left is declared with a clock, where it may have it, and what then is to be sampled.
-fn declared_so(
+pub fn declared_so(
     alloc: Global,
     on: Context<'_>,
     variable: Variable<'_>,
@@ -257,8 +258,24 @@ fn told_with(
     Ok(finding)
 }
 
-/// What is said of an expression that has no value at some instants of its place, and isn't remembered; the finding as it is where one
-/// test doesn't lead from the one clock to the other, or no value of its type is known. The variable on the left may be declared otherwise.
+/// What is said of an expression that has no value at some instants of its place, with a value of its type as it is written.
+fn told_lacking(
+    alloc: Global,
+    on: Context<'_>,
+    finding: Finding,
+    found: Misplaced<'_>,
+    all: &[Misplaced<'_>],
+    lacking: Lacking<'_>,
+    declared: Option<Redeclared<'_>>,
+) -> Result<Finding, AllocError> {
+    match found.memory {
+        Some(memory) => told_of_memory(alloc, on, finding, found, lacking, memory),
+        None => told_with(alloc, on, finding, found, all, lacking, declared),
+    }
+}
+
+/// What is said of an expression that has no value at some instants of its place; the finding as it is where one test doesn't lead from the
+/// one clock to the other, or no value of its type is known. The variable on the left may be declared otherwise.
 pub fn told_of_lacking<'t>(
     alloc: Global,
     on: Context<'t>,
@@ -267,19 +284,23 @@ pub fn told_of_lacking<'t>(
     all: &[Misplaced<'_>],
     declared: Option<Redeclared<'t>>,
 ) -> Result<Finding, AllocError> {
-    match (
-        on.clocks.leading(found.wanted, found.has),
-        found.memory,
-        value_of_its_type(on.clocks, found.expr),
-    ) {
-        (Some(tick), None, Some(value)) => {
+    let Some(tick) = on.clocks.leading(found.wanted, found.has) else {
+        return Ok(finding);
+    };
+    let inner = slice_of(on.source, extent_of(on.source, bare(found.expr)));
+    if let Some(value) = value_of_its_type(on.clocks, found.expr) {
+        let lacking = Lacking { tick, inner, value };
+        return told_lacking(alloc, on, finding, found, all, lacking, declared);
+    }
+    match structure_of_its_type(alloc, on.clocks, found.expr)? {
+        Some(text) => {
             let lacking = Lacking {
                 tick,
-                inner: slice_of(on.source, extent_of(on.source, bare(found.expr))),
-                value,
+                inner,
+                value: text.as_str(),
             };
-            told_with(alloc, on, finding, found, all, lacking, declared)
+            told_lacking(alloc, on, finding, found, all, lacking, declared)
         }
-        _ => Ok(finding),
+        None => Ok(finding),
     }
 }

@@ -3,11 +3,11 @@
 ghost use Rattle.std.specs.Prelude.{◌≤◌, length};
 
 use crate::clock::Clocks;
-use crate::completing::completed;
-use crate::placing::Misplaced;
+use crate::completing::{completed, completed_and_sampled, completed_round};
+use crate::placing::{Misplaced, bare};
 use crate::sampling::{is_sampled_otherwise, resampled, sampled};
-use lus_faults::{Edit, joined};
-use lus_syntax::Equation;
+use lus_faults::{Edit, extent_of, joined};
+use lus_syntax::{Equation, Expr};
 use std::alloc::{AllocError, Global};
 
 /// The most changes that are put together.
@@ -35,12 +35,12 @@ fn change_of(
         let test = tick.test(alloc)?;
         return sampled(alloc, on, found, &test);
     }
-    if is_sampled_otherwise(found) {
+    if is_sampled_otherwise(on, found) {
         return resampled(alloc, on.source, found);
     }
     match on.clocks.leading(found.wanted, found.has) {
         Some(tick) => completed(alloc, on.source, on.clocks, on.equation, found, tick),
-        None => Ok(None),
+        None => completed_and_sampled(alloc, on, found),
     }
 }
 
@@ -73,6 +73,28 @@ fn insert(edits: &mut Vec<Edit>, edit: Edit) -> Result<(), AllocError> {
     Ok(())
 }
 
+/// Whether an expression stands in another one, or is that.
+fn is_in(source: &str, expr: &Expr, outer: &Expr) -> bool {
+    let (span, outer) = (extent_of(source, expr), extent_of(source, outer));
+    outer.start.byte <= span.start.byte && span.end().byte <= outer.end().byte
+}
+
+/// The changes that put a `merge` round an expression in which others are to be changed too; none where there are no others in it.
+fn changes_round(
+    alloc: Global,
+    on: Context<'_>,
+    found: Misplaced<'_>,
+    all: &[Misplaced<'_>],
+) -> Result<Option<(Edit, Edit)>, AllocError> {
+    let inner = bare(found.expr);
+    let has_others = all.iter().any(|other| is_in(on.source, other.expr, inner)
+        && !is_in(on.source, inner, other.expr));
+    match on.clocks.leading(found.wanted, found.has) {
+        Some(tick) if has_others => completed_round(alloc, on, found, tick),
+        _ => Ok(None),
+    }
+}
+
 /// The change that brings an expression to the clock of its place, and the others of its equation to theirs; none where no change
 /// brings the expression there.
 pub fn mended(
@@ -85,9 +107,16 @@ pub fn mended(
         return Ok(None);
     };
     let mut edits = Vec::new(alloc);
-    edits.push(first)?;
+    match changes_round(alloc, on, found, all)? {
+        Some((front, behind)) => {
+            edits.push(front)?;
+            edits.push(behind)?;
+        }
+        None => edits.push(first)?,
+    }
     for other in all {
         if edits.len() < MOST_CHANGES
+            && !is_in(on.source, bare(found.expr), other.expr)
             && let Some(edit) = change_of(alloc, on, *other)?
         {
             insert(&mut edits, edit)?;

@@ -3,7 +3,7 @@
 use crate::completing::value_of_its_type;
 use crate::mending::Context;
 use crate::placing::{Misplaced, bare};
-use lus_faults::{Edit, extent_of, slice_of, start_of};
+use lus_faults::{Edit, expressions_in, extent_of, slice_of, start_of};
 use lus_syntax::{Equation, Expr, Span};
 use std::alloc::{AllocError, Global};
 
@@ -28,8 +28,36 @@ fn first_byte(bytes: &[u8]) -> u8 {
     b' '
 }
 
+/// Whether a span is the value of a branch of a `merge` in an expression.
+fn is_branch(alloc: Global, source: &str, right: &Expr, span: Span) -> Result<bool, AllocError> {
+    for expr in &expressions_in(alloc, right)? {
+        if let Expr::Merge(_, _, parts) = *expr {
+            for part in parts {
+                let value = extent_of(source, &part.value);
+                if value.start.byte == span.start.byte && value.length == span.length {
+                    return Ok(true);
+                }
+            }
+        }
+    }
+    Ok(false)
+}
+
+/// Whether an expression is all that stands in its parentheses, between their commas, in a branch, or on the right of its equation.
+pub fn is_whole(
+    alloc: Global,
+    source: &str,
+    equation: &Equation,
+    span: Span,
+) -> Result<bool, AllocError> {
+    if is_alone(source, equation, span) {
+        return Ok(true);
+    }
+    is_branch(alloc, source, &equation.right, span)
+}
+
 /// Whether an expression is all that stands in its parentheses, between their commas, or on the right of its equation.
-pub fn is_whole(source: &str, equation: &Equation, span: Span) -> bool {
+fn is_alone(source: &str, equation: &Equation, span: Span) -> bool {
     let bytes = source.as_bytes();
     let start = span.start.byte;
     let end = span.end().byte;
@@ -57,7 +85,7 @@ fn sampling(
         None if matches!(inner, Expr::Name(_)) => String::from_str(alloc, text)?,
         None => format!(in alloc; "({text})")?,
     };
-    let text = if is_whole(on.source, on.equation, span) {
+    let text = if is_whole(alloc, on.source, on.equation, span)? {
         format!(in alloc; "{operand} when {test}")?
     } else {
         format!(in alloc; "({operand} when {test})")?
@@ -112,12 +140,21 @@ pub fn sampled(
     Ok(Some(sampling(alloc, on, sampled, first, test)?))
 }
 
-/// Whether an expression is sampled by another value of the variable that its place is sampled by.
-pub fn is_sampled_otherwise(found: Misplaced<'_>) -> bool {
-    match (bare(found.expr), found.has.newest, found.wanted.newest) {
-        (Expr::When(_, _), Some(has), Some(wanted)) => {
-            has.variable.text.as_str() == wanted.variable.text.as_str()
-        }
+/// Whether an expression is sampled otherwise than its place, and could be sampled as that is: by another value of one variable, or by a
+/// variable on the same clock.
+pub fn is_sampled_otherwise(on: Context<'_>, found: Misplaced<'_>) -> bool {
+    let (Expr::When(_, _), Some(has), Some(wanted)) = (
+        bare(found.expr),
+        found.has.newest,
+        found.wanted.newest,
+    ) else {
+        return false;
+    };
+    match (
+        on.clocks.clock(has.variable.text.as_str()),
+        on.clocks.clock(wanted.variable.text.as_str()),
+    ) {
+        (Some(one), Some(other)) => one.is(other),
         _ => false,
     }
 }

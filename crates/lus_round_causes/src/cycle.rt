@@ -1,37 +1,20 @@
 //! What is said of a causal cycle.
 
-use crate::delaying::{delayed, delayed_at, first_of_call};
-use crate::needs::{Need, need_of};
-use lus_faults::{
-    Edit, Exchanged, Finding, Sought, edited, edited_lines, exchange_in, expressions_in, extent_of,
+use crate::around::round_of;
+use crate::breaking::{Change, Link, changes_of, is_own, places_of};
+use crate::demands::{Demand, demands_in};
+use crate::fields::sibling_in;
+use crate::given::Given;
+use crate::needs::need_of;
+use crate::notes::{
+    note_of_one, note_of_several, note_without_change, push_line, push_remarks, push_way,
 };
+use lus_faults::{Exchanged, Finding, Sought, exchange_in, expressions_in, extent_of};
 use lus_syntax::{Node, Refusal, Tree};
 use std::alloc::{AllocError, Global};
 
 /// How many variables of a cycle are told.
 const MOST_TOLD: usize = 20;
-
-/// Of how many uses it is told how they are made ones of the instant before.
-const MOST_WAYS: usize = 4;
-
-/// The most bytes of a line that is told in a note.
-const MOST_BYTES: usize = 100;
-
-/// A use of a variable in a cycle.
-#[derive(Clone, Copy)]
-struct Link<'r> {
-    variable: &'r str,
-    need: Need,
-}
-
-/// Whether a variable is used before its equation in the text, as what is fed back often is.
-fn is_fed_back(node: &Node, link: Link<'_>) -> bool {
-    node.equations.iter().any(|equation| {
-        equation.left.iter().any(|name| {
-            name.text.as_str() == link.variable && name.span.start.byte > link.need.span.start.byte
-        })
-    })
-}
 
 /// The uses in a cycle, each with the variable that is used.
 fn links_of<'r>(
@@ -48,7 +31,11 @@ fn links_of<'r>(
         };
         let (from, variable) = (name.as_str(), next.as_str());
         if let Some(need) = need_of(node, from, variable) {
-            links.push(Link { variable, need })?;
+            links.push(Link {
+                from,
+                variable,
+                need,
+            })?;
             told.relate(
                 need.span,
                 format!(in alloc; "`{from}` depends on `{variable}` here")?,
@@ -56,45 +43,6 @@ fn links_of<'r>(
         }
     }
     Ok(links)
-}
-
-/// The place of the use in a cycle of several variables that is best made one of the instant before: of a variable whose first value is
-/// known, or that is fed back, or the last.
-fn best_of(
-    alloc: Global,
-    source: &str,
-    tree: &Tree,
-    node: &Node,
-    links: &[Link<'_>],
-) -> Result<usize, AllocError> {
-    let mut fed_back = None;
-    for (place, link) in links.iter().enumerate() {
-        if first_of_call(alloc, source, tree, node, link.variable)?.is_some() {
-            return Ok(place);
-        }
-        if fed_back.is_none() && is_fed_back(node, *link) {
-            fed_back = Some(place);
-        }
-    }
-    Ok(fed_back.unwrap_or(links.len().saturating_sub(1)))
-}
-
-/// Appends how the line of another way would read.
-fn push_way(
-    alloc: Global,
-    note: &mut String,
-    source: &str,
-    line: usize,
-    edit: &Edit,
-) -> Result<(), AllocError> {
-    let Some(changed) = edited(alloc, source, edit)? else {
-        return Ok(());
-    };
-    let text = edited_lines(changed.as_str(), edit).unwrap_or("").trim();
-    if text.len() > MOST_BYTES {
-        return Ok(());
-    }
-    write!(note, " Or, in line {line}, write `{text}`.")
 }
 
 /// The first `fby` or `->` whose sides seem to be exchanged and on whose left a variable of a cycle is needed, with the variable that its
@@ -147,64 +95,98 @@ fn told_of_exchanged(
     })
 }
 
-/// What is said of a variable that needs itself: its uses with the value of the instant before.
-fn told_of_one(
-    alloc: Global,
-    source: &str,
-    tree: &Tree,
-    node: &Node,
-    text: &str,
-    told: Finding,
-) -> Result<Finding, AllocError> {
-    let edit = delayed(alloc, source, tree, node, text)?;
-    let is_chosen = edit.as_ref().is_some_and(|edit| edit.text.starts_with("("));
-    let note = if is_chosen {
-        "An equation cannot use the value that it defines: `pre x` is the value of `x` one instant before. Choose the first value: the one here is a placeholder."
-    } else {
-        "An equation cannot use the value that it defines: `pre x` is the value of `x` one instant before."
-    };
-    Ok(told.with_note(alloc, note)?.with_edit(edit))
-}
-
-/// What is said of variables that need each other: the ways to use one of them with the value of the instant before.
-fn told_of_several(
-    alloc: Global,
-    source: &str,
-    tree: &Tree,
-    node: &Node,
+/// What is said of a cycle that can be broken, with its further places: how one of its equations uses values of the instant before, and how
+/// others would.
+fn told_of_changes(
+    given: Given<'_>,
     links: &[Link<'_>],
+    changes: Vec<Change<'_>>,
     told: Finding,
 ) -> Result<Finding, AllocError> {
-    let best = best_of(alloc, source, tree, node, links)?;
     let mut told = told;
-    let is_call = links.iter().any(|link| link.need.is_argument);
-    let behind = if is_call {
-        "The outputs of a call depend on all its arguments, whatever the node does with them: a `pre` or `fby` outside the call breaks the cycle."
-    } else {
-        "A `pre` or `fby` before it breaks the cycle, as in `0 -> pre x`."
+    let Some(best) = changes.first() else {
+        return Ok(told);
     };
-    let mut note = format!(in alloc;
-        "Perhaps one of these uses is meant of the instant before: choose which one, and its first value. {behind}"
-    )?;
-    if let Some(link) = links.get(best) {
-        told.edit = delayed_at(alloc, source, tree, node, link.variable, link.need.span)?;
+    let mut note = if links.len() == 1 && is_own(given, best) {
+        note_of_one(given, best)?
+    } else {
+        note_of_several(given, best)?
+    };
+    if links.iter().any(|link| link.need.is_argument) {
+        note.push_str(
+            " The outputs of a call depend on all its arguments, whatever the node does with them, so the `pre` stands outside the call.",
+        )?;
     }
-    for (place, link) in links.iter().take(MOST_WAYS).enumerate() {
-        if place != best
-            && let Some(edit) = delayed_at(
-                alloc,
-                source,
-                tree,
-                node,
-                link.variable,
-                link.need.span,
-            )?
-        {
-            push_way(alloc, &mut note, source, link.need.span.start.line, &edit)?;
-        }
+    push_remarks(given, &mut note, best)?;
+    for change in changes.iter().skip(1) {
+        push_way(given, &mut note, &change.edit)?;
     }
     told.note = Some(note);
+    let mut changes = changes;
+    changes.truncate(1);
+    if let Some(change) = changes.pop() {
+        told.edit = Some(change.edit);
+    }
     Ok(told)
+}
+
+/// The note on a structure whose fields are computed from each other; nothing of other cycles.
+fn note_on_fields(
+    given: Given<'_>,
+    place: usize,
+    demands: &[Demand<'_>],
+) -> Result<Option<String>, AllocError> {
+    let Some(equation) = given.node.equations.get(place) else {
+        return Ok(None);
+    };
+    let Some(sibling) = sibling_in(given, equation, demands)? else {
+        return Ok(None);
+    };
+    let (used, value) = (sibling.used, sibling.value);
+    let mut note = format!(in given.alloc;
+        "The fields of a structure are given all at once, so `{used}` is not known yet in this equation. It gets `{value}` here: write that in its place."
+    )?;
+    if let Some(edit) = &sibling.edit {
+        push_line(given, &mut note, edit, " The line then is")?;
+    }
+    Ok(Some(note))
+}
+
+/// What is said of a cycle through equations, by how it is broken.
+fn told_of(given: Given<'_>, links: &[Link<'_>], told: Finding) -> Result<Finding, AllocError> {
+    let all = demands_in(given.alloc, given.node)?;
+    let places = places_of(given, &all, links)?;
+    let Some(place) = places.first().copied() else {
+        return Ok(told);
+    };
+    let demands = round_of(given.alloc, given.node, &all, place)?;
+    if links.len() == 1
+        && let Some(note) = note_on_fields(given, place, &demands)?
+    {
+        let mut told = told;
+        told.note = Some(note);
+        return Ok(told);
+    }
+    told_by_changes(given, links, &all, &places, &demands, told)
+}
+
+/// What is said of a cycle, by the changes of its equations, at these places, that break it; where there is none, by what the first one
+/// needs.
+fn told_by_changes<'t>(
+    given: Given<'t>,
+    links: &[Link<'_>],
+    all: &[Demand<'t>],
+    places: &[usize],
+    demands: &[Demand<'t>],
+    told: Finding,
+) -> Result<Finding, AllocError> {
+    let changes = changes_of(given, all, places)?;
+    if changes.is_empty() {
+        let mut told = told;
+        told.note = Some(note_without_change(given, demands)?);
+        return Ok(told);
+    }
+    told_of_changes(given, links, changes, told)
 }
 
 /// What is said of a cycle: each variable, with the place at which it needs the next; and how one is used with its value of the instant
@@ -226,11 +208,11 @@ pub fn cycle_cause(
     if let Some((found, name)) = exchanged_in(alloc, source, node, &links)? {
         return Ok(Some(told_of_exchanged(alloc, source, found, name, told)?));
     }
-    let is_one = names.len() == 1 && !links.iter().any(|link| link.need.is_argument);
-    let told = if is_one {
-        told_of_one(alloc, source, tree, node, text, told)?
-    } else {
-        told_of_several(alloc, source, tree, node, &links, told)?
+    let given = Given {
+        alloc,
+        source,
+        tree,
+        node,
     };
-    Ok(Some(told))
+    Ok(Some(told_of(given, &links, told)?))
 }

@@ -1,210 +1,109 @@
-//! A variable that needs itself, and how its equation is written with the value of the instant before.
+//! Uses of variables that are made ones of the instant before.
 
-use lus_faults::{
-    Edit, bytes_at, replacing, resolved, slice_of, uses_at_once, value_of, variable_named,
-};
-use lus_syntax::{Expr, Group, Infix, Name, Node, RefusalNumber, Span, Token, Tree, lex};
-use std::alloc::{AllocError, Global};
+use crate::demands::Demand;
+use crate::firsts::{FirstValue, first_value, local_before};
+use crate::given::Given;
+use lus_faults::{Edit, bytes_at, extent_of, joined, slice_of};
+use lus_syntax::{Expr, Span};
+use std::alloc::AllocError;
 
-/// The right side of the equation that defines a variable alone.
-fn right_of<'t>(node: &'t Node, text: &str) -> Option<&'t Expr> {
-    for equation in &node.equations {
-        if let Some(name) = equation.left.first()
-            && equation.left.len() == 1
-            && name.text.as_str() == text
-        {
-            return Some(&equation.right);
-        }
+/// How a use is made one of the instant before: by a variable that has that value, by `pre` behind `->`, or by `pre` with a first value.
+#[derive(Clone, Copy)]
+pub enum Way<'t> {
+    ByVariable(&'t str),
+    Behind,
+    WithFirst(FirstValue<'t>),
+}
+
+/// How a use is made one of the instant before; nothing where a test is over the variable, or no first value is known.
+pub fn way_of<'t>(given: Given<'t>, demand: Demand<'t>) -> Result<Option<Way<'t>>, AllocError> {
+    let Some(expr) = demand.expr else {
+        return Ok(None);
+    };
+    if let Expr::Name(name) = expr
+        && let Some(local) = local_before(given, name.text.as_str())
+    {
+        return Ok(Some(Way::ByVariable(local.text.as_str())));
     }
-    None
-}
-
-/// A value of the type of a variable: `0`, `false` or a constructor; none of a structure.
-fn value_of_variable<'t>(tree: &'t Tree, node: &'t Node, text: &str) -> Option<&'t str> {
-    let variable = variable_named(node, text)?;
-    value_of(resolved(tree, &variable.group.type_name, tree.types.len())?)
-}
-
-/// The place of a name among some.
-fn place_of(names: &[Name], text: &str) -> Option<usize> {
-    for (place, name) in names.iter().enumerate() {
-        if name.text.as_str() == text {
-            return Some(place);
-        }
+    if demand.is_later {
+        return Ok(Some(Way::Behind));
     }
-    None
+    Ok(match first_value(given, demand.name, expr)? {
+        Some(first) => Some(Way::WithFirst(first)),
+        None => None,
+    })
 }
 
-/// The variable of groups at a place.
-fn variable_at(groups: &[Group], place: usize) -> Option<&Name> {
-    let mut left = place;
-    for group in groups {
-        match left.checked_sub(group.names.len()) {
-            Some(rest) => left = rest,
-            None => return group.names.get(left),
-        }
-    }
-    None
-}
-
-/// The output of a called node that a variable of a node is the result of.
-fn output_of<'t>(tree: &'t Tree, node: &'t Node, text: &str) -> Option<(&'t Node, &'t Name)> {
-    for equation in &node.equations {
-        if let Some(place) = place_of(&equation.left, text)
-            && let Expr::Call(called, _) = &equation.right
-        {
-            let owner = tree
-                .nodes
-                .iter()
-                .find(|other| other.name.text.as_str() == called.text.as_str())?;
-            return Some((owner, variable_at(&owner.outputs, place)?));
-        }
-    }
-    None
-}
-
-/// The tokens of a text; none where it has no tokens.
-fn tokens_of(alloc: Global, text: &str) -> Result<Vec<Token<'_>>, AllocError> {
-    match lex(alloc, text) {
-        Ok(tokens) => Ok(tokens),
-        Err(refusal) => {
-            if refusal.number == RefusalNumber::Memory {
-                return Err(AllocError);
-            }
-            Ok(Vec::new(alloc))
-        }
-    }
-}
-
-/// The texts of the tokens of a node, from its name up to the line of its `tel`.
-fn words_of<'t>(alloc: Global, source: &'t str, node: &Node) -> Result<Vec<&'t str>, AllocError> {
-    let rest = bytes_at(source, node.name.span.start.byte, source.len()).unwrap_or("");
-    let end = rest.find("\ntel").unwrap_or(rest.len());
-    let text = bytes_at(rest, 0, end).unwrap_or("");
-    let mut words = Vec::new(alloc);
-    for token in &tokens_of(alloc, text)? {
-        words.push(slice_of(text, token.span))?;
-    }
-    Ok(words)
-}
-
-/// Whether a text is a literal of the type of another one.
-fn is_literal(text: &str, other: &str) -> bool {
-    match (other, text.as_bytes().first()) {
-        ("0", Some(byte)) => byte.is_ascii_digit(),
-        ("false", _) => text == "true" || text == "false",
-        _ => false,
-    }
-}
-
-/// The literal of the type of another one before a `->` or a `fby` of the equation of a variable that has this variable behind it.
-fn first_in<'t>(words: &[&'t str], text: &str, other: &str) -> Option<&'t str> {
-    let (mut two_before, mut before) = ("", "");
-    let mut is_there = false;
-    let mut first = None;
-    for word in words {
-        if is_there && *word == ";" {
-            return None;
-        }
-        if is_there && first.is_some() && *word == text {
-            return first;
-        }
-        if *word == "=" && before == text && (two_before == "let" || two_before == ";") {
-            is_there = true;
-        } else if is_there
-            && first.is_none()
-            && (*word == "->" || *word == "fby")
-            && (two_before == "=" || two_before == "(")
-            && is_literal(before, other)
-        {
-            first = Some(before);
-        }
-        two_before = before;
-        before = *word;
-    }
-    None
-}
-
-/// The first value that the called node gives the output that a variable is the result of, by the text of that node: the tree may have its
-/// head alone.
-pub fn first_of_call<'t>(
-    alloc: Global,
-    source: &'t str,
-    tree: &Tree,
-    node: &Node,
-    text: &str,
-) -> Result<Option<&'t str>, AllocError> {
-    match (
-        output_of(tree, node, text),
-        value_of_variable(tree, node, text),
-    ) {
-        (Some((owner, output)), Some(other)) => {
-            let words = words_of(alloc, source, owner)?;
-            Ok(first_in(&words, output.text.as_str(), other))
-        }
-        _ => Ok(None),
-    }
-}
-
-/// Whether a span is all that stands in its parentheses, or between their commas.
-fn is_alone(source: &str, span: Span) -> bool {
+/// Whether a span is all that stands in its parentheses or between their commas, or on the right of an equation.
+fn is_alone(given: Given<'_>, span: Span) -> bool {
+    let source = given.source;
     let before = bytes_at(source, 0, span.start.byte)
         .unwrap_or("")
         .trim_end();
     let behind = bytes_at(source, span.end().byte, source.len())
         .unwrap_or("")
         .trim_start();
-    (before.ends_with("(") || before.ends_with(","))
-        && (behind.starts_with(")") || behind.starts_with(","))
+    let is_part = (before.ends_with("(") || before.ends_with(","))
+        && (behind.starts_with(")") || behind.starts_with(","));
+    is_part
+        || given.node.equations.iter().any(|equation| {
+            let right = extent_of(source, &equation.right);
+            right.start.byte == span.start.byte && right.length == span.length
+        })
 }
 
-/// The change of a source by which the value of the instant before is used at a place in that of a variable's own, with the first value of
-/// the called node that gives it, or else with one of its type. Nothing where there is none.
-pub fn delayed_at(
-    alloc: Global,
-    source: &str,
-    tree: &Tree,
-    node: &Node,
-    text: &str,
-    span: Span,
-) -> Result<Option<Edit>, AllocError> {
-    let known = first_of_call(alloc, source, tree, node, text)?;
-    let Some(first) = known.or(value_of_variable(tree, node, text)) else {
+/// Whether a span stands before `when`.
+fn is_sampled(given: Given<'_>, span: Span) -> bool {
+    bytes_at(given.source, span.end().byte, given.source.len())
+        .unwrap_or("")
+        .trim_start()
+        .starts_with("when")
+}
+
+/// A use at a span as it is written in such a way.
+fn written(given: Given<'_>, span: Span, way: Way<'_>) -> Result<String, AllocError> {
+    let text = slice_of(given.source, span);
+    match way {
+        Way::ByVariable(name) => String::from_str(given.alloc, name),
+        Way::Behind => {
+            if is_sampled(given, span) {
+                format!(in given.alloc; "(pre {text})")
+            } else {
+                format!(in given.alloc; "pre {text}")
+            }
+        }
+        Way::WithFirst(first) => {
+            let first = first.text;
+            if is_alone(given, span) {
+                format!(in given.alloc; "{first} -> pre {text}")
+            } else {
+                format!(in given.alloc; "({first} -> pre {text})")
+            }
+        }
+    }
+}
+
+/// The change of a source by which a use is of the instant before; nothing where it can't be.
+pub fn delayed_at(given: Given<'_>, demand: Demand<'_>) -> Result<Option<Edit>, AllocError> {
+    let (Some(expr), Some(way)) = (demand.expr, way_of(given, demand)?) else {
         return Ok(None);
     };
-    let text = if is_alone(source, span) {
-        format!(in alloc; "{first} -> pre {text}")?
-    } else {
-        format!(in alloc; "({first} -> pre {text})")?
-    };
+    let span = extent_of(given.source, expr);
     Ok(Some(Edit {
         byte: span.start.byte,
         length: span.length,
-        text,
+        text: written(given, span, way)?,
     }))
 }
 
-/// The change of a source by which the equation of a variable uses the value of the instant before in place of its own: behind `->` by
-/// `pre`, else with a first value. Nothing where there is no such use, or a first value isn't known.
-pub fn delayed(
-    alloc: Global,
-    source: &str,
-    tree: &Tree,
-    node: &Node,
-    text: &str,
-) -> Result<Option<Edit>, AllocError> {
-    let Some(right) = right_of(node, text) else {
-        return Ok(None);
-    };
-    if let Expr::Binary(Infix::Arrow, _, later) = right {
-        let uses = uses_at_once(alloc, later, text)?;
-        let written = format!(in alloc; "pre {text}")?;
-        return replacing(alloc, source, &uses, &written);
+/// The change of a source by which an equation uses values of the instant before in place of its own; nothing where one of them can't be.
+pub fn delayed(given: Given<'_>, demands: &[Demand<'_>]) -> Result<Option<Edit>, AllocError> {
+    let mut edits = Vec::new(given.alloc);
+    for demand in demands {
+        match delayed_at(given, *demand)? {
+            Some(edit) => edits.push(edit)?,
+            None => return Ok(None),
+        }
     }
-    let Some(first) = value_of_variable(tree, node, text) else {
-        return Ok(None);
-    };
-    let uses = uses_at_once(alloc, right, text)?;
-    let written = format!(in alloc; "({first} -> pre {text})")?;
-    replacing(alloc, source, &uses, &written)
+    joined(given.alloc, given.source, &edits)
 }

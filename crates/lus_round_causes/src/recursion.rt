@@ -1,7 +1,7 @@
 //! What is said of a node or a type that leads back to itself.
 
-use lus_faults::{Finding, Link, Sought, calls_of, uses_of};
-use lus_syntax::{Name, Refusal, Tree};
+use lus_faults::{Finding, Link, Sought, calls_of, resolved, uses_of, value_of};
+use lus_syntax::{Name, Node, Refusal, Tree};
 use std::alloc::{AllocError, Global};
 
 /// How many nodes or types of a way are told.
@@ -36,14 +36,51 @@ fn ways_to<'t>(
     Ok(next)
 }
 
-/// What goes round: a node or a type, what is used there, and what is said of it.
+/// What goes round: a node or a type, what is used there, and the node if it calls itself.
 #[derive(Clone, Copy)]
 struct Round<'t> {
     start: usize,
     what: &'static str,
     owner: &'t Name,
     length: usize,
-    note: &'static str,
+    own: Option<&'t Node>,
+}
+
+/// The note on a node that calls itself.
+fn note_on_own(alloc: Global, tree: &Tree, node: &Node) -> Result<String, AllocError> {
+    let owner = node.name.text.as_str();
+    let mut note = format!(in alloc;
+        "A node cannot call itself: all calls are laid out before the program runs, and these would have no end."
+    )?;
+    if let Some(group) = node.outputs.first()
+        && let Some(output) = group.names.first()
+        && let Some(of) = resolved(tree, &group.type_name, tree.types.len())
+        && let Some(first) = value_of(of)
+    {
+        let output = output.text.as_str();
+        write!(
+            note,
+            " To go on from its value of one instant before, write `({first} -> pre {output})` in the place of the call, with a first value of your choice."
+        )?;
+    }
+    write!(
+        note,
+        " For several steps at one instant, write a node for each, as `{owner}1` that calls `{owner}2`; the last one calls none."
+    )?;
+    Ok(note)
+}
+
+/// The note on what goes round.
+fn note_on(alloc: Global, tree: &Tree, round: Round<'_>) -> Result<String, AllocError> {
+    if let Some(node) = round.own {
+        return note_on_own(alloc, tree, node);
+    }
+    let note = if round.what == "type" {
+        "A type has a fixed size, so it cannot contain itself. There are no lists and no trees."
+    } else {
+        "Nodes cannot call each other round in a circle: all calls are laid out before the program runs, and these would have no end. To go on from values of one instant before, write one node with the equations of both, and use them there by `pre`, as in `0 -> pre x`. For several steps at one instant, write a node for each step, which calls the next; the last one calls none."
+    };
+    String::from_str(alloc, note)
 }
 
 /// Adds the uses on the way from a declaration back to itself.
@@ -71,6 +108,7 @@ fn add_way(
 /// What is said of a way from a declaration back to itself, along links between so many.
 fn way_told(
     alloc: Global,
+    tree: &Tree,
     links: &[Link<'_>],
     count: usize,
     round: Round<'_>,
@@ -81,7 +119,7 @@ fn way_told(
     let sentence = format!(in alloc; "the {what} `{owner}` is recursive")?;
     let mut told = Finding::new(alloc, sentence, round.length);
     add_way(alloc, &next, round.start, &mut told)?;
-    told.note = Some(String::from_str(alloc, round.note)?);
+    told.note = Some(note_on(alloc, tree, round)?);
     Ok(Some(told))
 }
 
@@ -96,7 +134,7 @@ fn calling<'t>(sought: Sought, tree: &'t Tree, links: &[Link<'t>]) -> Option<Rou
                 what: "node",
                 owner: &node.name,
                 length: link.name.span.length,
-                note: "Recursion is not supported: write a node for each level, or keep earlier values with `pre`.",
+                own: (link.to == link.from).then_some(node),
             });
         }
     }
@@ -113,7 +151,7 @@ fn declared_at(sought: Sought, tree: &Tree) -> Option<Round<'_>> {
                 what: "type",
                 owner,
                 length: owner.span.length,
-                note: "A type has a fixed size, so it cannot contain itself. There are no lists and no trees.",
+                own: None,
             });
         }
     }
@@ -129,11 +167,11 @@ pub fn recursion_cause(
     let sought = Sought::of(refusal);
     if let Some(round) = declared_at(sought, tree) {
         let links = uses_of(alloc, tree)?;
-        return way_told(alloc, &links, tree.types.len(), round);
+        return way_told(alloc, tree, &links, tree.types.len(), round);
     }
     let links = calls_of(alloc, tree)?;
     match calling(sought, tree, &links) {
-        Some(round) => way_told(alloc, &links, tree.nodes.len(), round),
+        Some(round) => way_told(alloc, tree, &links, tree.nodes.len(), round),
         None => Ok(None),
     }
 }
