@@ -9,6 +9,22 @@ use crate::words::is_any;
 use lus_faults::{Edit, Finding, slice_of};
 use std::alloc::{AllocError, Global};
 
+/// The text of a token of the source; none behind the last.
+fn text_at<'t>(fault: &Fault<'t>, place: usize) -> &'t str {
+    match fault.all.get(place) {
+        Some(token) => slice_of(fault.source, token.span),
+        None => "",
+    }
+}
+
+/// Whether the constructors of an enumeration begin behind a token.
+fn is_begun(fault: &Fault<'_>, place: usize, name: &str) -> bool {
+    is_any(text_at(fault, place), &["{"])
+        && is_any(text_at(fault, place.wrapping_sub(1)), &["enum"])
+        && is_any(text_at(fault, place.wrapping_sub(2)), &["="])
+        && text_at(fault, place.wrapping_sub(3)) == name
+}
+
 /// The constructors of an enumeration.
 fn constructors_in<'t>(
     alloc: Global,
@@ -16,19 +32,14 @@ fn constructors_in<'t>(
     name: &str,
 ) -> Result<Vec<&'t str>, AllocError> {
     let mut found = Vec::new(alloc);
-    let (mut third, mut second, mut first) = ("", "", "");
     let mut is_in = false;
-    for token in fault.all {
-        let text = slice_of(fault.source, token.span);
+    for place in 0..fault.all.len() {
+        let text = text_at(fault, place);
         is_in = is_in && !is_any(text, &["}"]);
         if is_in && !is_any(text, &[","]) {
             found.push(text)?;
         }
-        let is_enumeration = is_any(first, &["enum"]) && is_any(second, &["="]);
-        is_in = is_in || is_any(text, &["{"]) && is_enumeration && third == name;
-        third = second;
-        second = first;
-        first = text;
+        is_in = is_in || is_begun(fault, place, name);
     }
     Ok(found)
 }
@@ -117,13 +128,13 @@ pub fn defaulted(alloc: Global, fault: &Fault<'_>) -> Result<Option<Finding>, Al
     let (Some(merge), Some((value, range))) = (merge_before(fault), value_of(fault)) else {
         return Ok(None);
     };
-    let sentence = String::from_str(
-        alloc,
-        "a `merge` has no branch for all other constructors",
-    )?;
+    let sentence = String::from_str(alloc, "a `merge` has no branch for all other constructors")?;
     let note = "Write one for each.";
     let wrong = (fault.place, fault.place.saturating_add(1));
-    let edit = match (branches_for(alloc, fault, merge, value)?, fault.bytes_of(range)) {
+    let edit = match (
+        branches_for(alloc, fault, merge, value)?,
+        fault.bytes_of(range),
+    ) {
         (Some(text), Some((byte, end))) => {
             let length = end.saturating_sub(byte);
             let edit = Edit { byte, length, text };
