@@ -2,7 +2,7 @@
 
 use crate::clock::Clock;
 use crate::completing::{are_beside, value_of_its_type};
-use crate::exchanging::{counterpart, exchanged, merged_by, name_of, other_variable};
+use crate::exchanging::{counterpart, exchanged, merged_by, name_of, other_variable, own_branch};
 use crate::lacking::{is_right, left_of};
 use crate::mending::Context;
 use crate::placing::Misplaced;
@@ -173,7 +173,26 @@ fn advice_on_name<'t>(
     }))
 }
 
-/// What is said of an expression that another one seems to be meant for, or another `merge`; nothing where none is known.
+/// What is said of a value that stands in the wrong one of two branches.
+fn advice_on_branch<'t>(
+    alloc: Global,
+    on: Context<'t>,
+    found: Misplaced<'t>,
+) -> Result<Option<Advice>, AllocError> {
+    let Some(other) = own_branch(alloc, on, found)? else {
+        return Ok(None);
+    };
+    let text = slice_of(on.source, extent_of(on.source, found.expr));
+    let has = instants_of(alloc, found.has)?;
+    Ok(Some(Advice {
+        note: format!(in alloc;
+            "`{text}` has a value {has}: perhaps the values of the two branches stand in each other's place."
+        )?,
+        edit: exchanged(alloc, on.source, found.expr, other)?,
+    }))
+}
+
+/// What is said of an expression that another one seems to be meant for, or another branch or `merge`; nothing where none is known.
 pub fn advice_on_place<'t>(
     alloc: Global,
     on: Context<'t>,
@@ -188,6 +207,10 @@ pub fn advice_on_place<'t>(
             )?,
             edit: Some(edit),
         }));
+    }
+    let branch = advice_on_branch(alloc, on, found)?;
+    if branch.is_some() {
+        return Ok(branch);
     }
     advice_on_name(alloc, on, found, all)
 }

@@ -119,6 +119,43 @@ pub fn merged_by<'t>(
     Ok(None)
 }
 
+/// The value of the branch that has a label.
+fn value_at<'t>(parts: &'t [Part], wanted: &str) -> Option<&'t Expr> {
+    for part in parts {
+        if let Lead::Branch(_, label) = &part.lead
+            && text_of_label(label) == wanted
+        {
+            return Some(&part.value);
+        }
+    }
+    None
+}
+
+/// The value of the branch that a misplaced one of the same `merge` seems to be meant for: it has its value there, and what stands there is
+/// always the same.
+pub fn own_branch<'t>(
+    alloc: Global,
+    on: Context<'t>,
+    found: Misplaced<'t>,
+) -> Result<Option<&'t Expr>, AllocError> {
+    let Some(tick) = found.has.newest else {
+        return Ok(None);
+    };
+    for expr in &expressions_in(alloc, &on.equation.right)? {
+        if let Expr::Merge(_, variable, parts) = *expr
+            && variable.text.as_str() == tick.variable.text.as_str()
+            && parts
+                .iter()
+                .any(|part| is_same(on.source, &part.value, found.expr))
+            && let Some(other) = value_at(parts, tick.label)
+            && is_fixed(on.clocks.node, other)
+        {
+            return Ok(Some(other));
+        }
+    }
+    Ok(None)
+}
+
 /// Whether two variables are different ones on one clock.
 fn is_alike(on: Context<'_>, one: &Name, other: &Name) -> bool {
     match (
