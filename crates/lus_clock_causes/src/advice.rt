@@ -65,11 +65,11 @@ fn note_on_sampled(
 }
 
 /// The note on an expression that is sampled otherwise than its place, with the one that it may be exchanged with.
-fn note_on_resampled(
+fn note_on_resampled<'t>(
     alloc: Global,
-    on: Context<'_>,
-    found: Misplaced<'_>,
-    all: &[Misplaced<'_>],
+    on: Context<'t>,
+    found: Misplaced<'t>,
+    all: &[Misplaced<'t>],
     test: &str,
 ) -> Result<String, AllocError> {
     let mut note = format!(in alloc; "Perhaps `when {test}` is meant, as at this place.")?;
@@ -98,11 +98,11 @@ fn note_on_resampled(
 }
 
 /// How an expression comes to the clock of its place.
-pub fn advice_on(
+pub fn advice_on<'t>(
     alloc: Global,
-    on: Context<'_>,
-    found: Misplaced<'_>,
-    all: &[Misplaced<'_>],
+    on: Context<'t>,
+    found: Misplaced<'t>,
+    all: &[Misplaced<'t>],
 ) -> Result<String, AllocError> {
     if let Some(tick) = on.clocks.leading(found.has, found.wanted) {
         let test = tick.test(alloc)?;

@@ -45,8 +45,8 @@ fn push_held(
         return Ok(());
     }
     let branches = Branches {
-        inner: name,
-        value,
+        inner: &*name,
+        value: &*value,
         held: Some(last.as_str()),
     };
     if let Some(held) = merged(alloc, on.clocks, tick, branches)? {
