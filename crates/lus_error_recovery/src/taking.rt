@@ -223,8 +223,7 @@ impl<'s> Rest<'s> {
             return Ok(None);
         };
         let line = declaration.line_before(edit.byte);
-        let Some(found) =
-            declaration.changed(alloc, self.source, edit, fault.line, fault.column)?
+        let Some(found) = declaration.changed(alloc, self.source, edit, fault.line, fault.column)?
         else {
             return Ok(None);
         };
