@@ -196,10 +196,7 @@ fn begins(fault: &Fault<'_>) -> bool {
 }
 
 /// The statement with `if` that begins at the fault, if all its branches assign.
-pub fn statement_at(
-    alloc: Global,
-    fault: &Fault<'_>,
-) -> Result<Option<Statement>, AllocError> {
+pub fn statement_at(alloc: Global, fault: &Fault<'_>) -> Result<Option<Statement>, AllocError> {
     if !begins(fault) {
         return Ok(None);
     }

@@ -37,8 +37,7 @@ fn merge_before(fault: &Fault<'_>) -> Option<usize> {
 
 /// Whether a label of a branch stands at a place, and the sign behind it.
 fn is_label(fault: &Fault<'_>, place: usize) -> bool {
-    let is_word = is_name(fault.tokens.get(place))
-        || is_any(fault.text(place), &["true", "false"]);
+    let is_word = is_name(fault.tokens.get(place)) || is_any(fault.text(place), &["true", "false"]);
     is_word && sign_length(fault, place.saturating_add(1)).is_some()
 }
 
@@ -178,11 +177,7 @@ fn push_branch(text: &mut String, fault: &Fault<'_>, branch: Branch) -> Result<(
 }
 
 /// The change that gives each branch parentheses of its own.
-fn parted(
-    alloc: Global,
-    fault: &Fault<'_>,
-    branches: &Listed,
-) -> Result<Option<Edit>, AllocError> {
+fn parted(alloc: Global, fault: &Fault<'_>, branches: &Listed) -> Result<Option<Edit>, AllocError> {
     let (from, _) = branches.range;
     let Some((start, end)) = fault.bytes_of(branches.range) else {
         return Ok(None);

@@ -117,13 +117,13 @@ pub fn defaulted(alloc: Global, fault: &Fault<'_>) -> Result<Option<Finding>, Al
     let (Some(merge), Some((value, range))) = (merge_before(fault), value_of(fault)) else {
         return Ok(None);
     };
-    let sentence = String::from_str(
-        alloc,
-        "a `merge` has no branch for all other constructors",
-    )?;
+    let sentence = String::from_str(alloc, "a `merge` has no branch for all other constructors")?;
     let note = "Write one for each.";
     let wrong = (fault.place, fault.place.saturating_add(1));
-    let edit = match (branches_for(alloc, fault, merge, value)?, fault.bytes_of(range)) {
+    let edit = match (
+        branches_for(alloc, fault, merge, value)?,
+        fault.bytes_of(range),
+    ) {
         (Some(text), Some((byte, end))) => {
             let length = end.saturating_sub(byte);
             let edit = Edit { byte, length, text };

@@ -96,7 +96,9 @@ fn bytes_without(fault: &Fault<'_>, range: Range) -> Option<(usize, usize)> {
     let (from, to) = range;
     let (front, rear) = sides(fault, range, start, end);
     let is_before = front < start && is_blank(fault.source, front, start);
-    let is_behind = end < rear && is_blank(fault.source, end, rear) && is_on_line(fault.source, end, rear);
+    let is_behind = end < rear
+        && is_blank(fault.source, end, rear)
+        && is_on_line(fault.source, end, rear);
     let is_last = end < rear && !is_behind;
     if is_behind && (is_before || is_sign(fault.tokens.get(from.saturating_sub(1)))) {
         Some((start, rear))

@@ -77,7 +77,12 @@ fn may_begin(sign: &str, before: &str, behind: &str) -> bool {
     if is_any(sign, &["%", "%%"]) {
         return is_between(before);
     }
-    let word = behind.trim_start().as_bytes().first().copied().unwrap_or(b' ');
+    let word = behind
+        .trim_start()
+        .as_bytes()
+        .first()
+        .copied()
+        .unwrap_or(b' ');
     let is_alone = before.is_empty() || !is_any(sign, &[";", "rem", "REM"]) && is_between(before);
     is_alone && behind.starts_with(" ") && word.is_ascii_alphabetic() && !behind.contains("=")
 }
@@ -136,8 +141,16 @@ fn comment_at(line: &str, fault: usize, is_between: bool) -> Option<(usize, &'st
 fn with_dashes(alloc: Global, source: &str, byte: usize, sign: &str) -> Result<Edit, AllocError> {
     let behind = bytes_at(source, byte.saturating_add(sign.len()), source.len()).unwrap_or("");
     let first = behind.as_bytes().first().copied().unwrap_or(b'\n');
-    let before = source.as_bytes().get(byte.wrapping_sub(1)).copied().unwrap_or(b'\n');
-    let left = if before.is_ascii_whitespace() { "" } else { " " };
+    let before = source
+        .as_bytes()
+        .get(byte.wrapping_sub(1))
+        .copied()
+        .unwrap_or(b'\n');
+    let left = if before.is_ascii_whitespace() {
+        ""
+    } else {
+        " "
+    };
     let right = if first.is_ascii_whitespace() { "" } else { " " };
     Ok(Edit {
         byte,
@@ -262,14 +275,13 @@ fn told_nested(alloc: Global, fault: &Fault<'_>) -> Result<Option<Finding>, Allo
     let line = place_at(fault.source, comment.start).line;
     let sentence = format!(in alloc; "the comment that begins on line {line} ends here")?;
     let note = "Comments do not nest: the first end is that of both. Leave out the inner one.";
-    let finding = noted(
-        alloc,
-        Some(place_at(fault.source, sign)),
-        2,
-        sentence,
-        note,
-    )?;
-    let before = fault.source.as_bytes().get(sign.wrapping_sub(1)).copied().unwrap_or(b'*');
+    let finding = noted(alloc, Some(place_at(fault.source, sign)), 2, sentence, note)?;
+    let before = fault
+        .source
+        .as_bytes()
+        .get(sign.wrapping_sub(1))
+        .copied()
+        .unwrap_or(b'*');
     let blank = usize::from(before == b' ');
     let edit = Edit {
         byte: sign.saturating_sub(blank),

@@ -81,7 +81,8 @@ fn local_at(fault: &Fault<'_>, place: usize) -> Option<Local> {
     let first = if is_typed { next } else { from };
     let to = names_end(fault, first);
     let names = (first, to);
-    let is_named = is_any(fault.text(to), &[":"]) && !is_any(fault.text(to.saturating_add(1)), &["="]);
+    let is_named = is_any(fault.text(to), &[":"])
+        && !is_any(fault.text(to.saturating_add(1)), &["="]);
     let is_other = !is_typed && !is_named && !is_word;
     if to == first || is_other || is_variable(fault, fault.text(first)) {
         return None;
@@ -256,7 +257,8 @@ fn declared_behind(alloc: Global, fault: &Fault<'_>) -> Result<Option<Finding>, 
     let locals = locals_behind(alloc, fault, opening.saturating_add(1))?;
     let edit = moved(alloc, fault, &locals, opening)?;
     let sentence = String::from_str(alloc, "local variables are declared before `let`")?;
-    let note = "Each has its type there, as in `var a: int; b: bool; let ..`, and its equation behind `let`.";
+    let note =
+        "Each has its type there, as in `var a: int; b: bool; let ..`, and its equation behind `let`.";
     let wrong = (start, start.saturating_add(1));
     Ok(Some(told(alloc, fault, wrong, sentence, note, edit)?))
 }

@@ -41,12 +41,7 @@ fn first_of<'t>(fault: &Fault<'t>, name: &str) -> Option<&'t str> {
 }
 
 /// The value that an arm of a statement gives a variable.
-fn value_in(
-    statement: &Statement,
-    fault: &Fault<'_>,
-    name: &str,
-    arm: usize,
-) -> Option<Assigned> {
+fn value_in(statement: &Statement, fault: &Fault<'_>, name: &str, arm: usize) -> Option<Assigned> {
     for assigned in &statement.assigned {
         if assigned.arm == arm && fault.text(assigned.name) == name {
             return Some(*assigned);
@@ -71,10 +66,8 @@ fn default_of(fault: &Fault<'_>, name: &str) -> Option<(Range, usize)> {
 
 /// Whether a statement adds to a name, or takes from it.
 fn counts(fault: &Fault<'_>, statement: &Statement, name: &str) -> bool {
-    statement
-        .assigned
-        .iter()
-        .any(|assigned| fault.text(assigned.name) == name && !assigned.sign.is_empty())
+    statement.assigned.iter().any(|assigned| fault.text(assigned.name) == name
+        && !assigned.sign.is_empty())
 }
 
 /// Appends the value that a name has where a statement assigns none: that of the equation before, or of the instant before. Whether it is the
@@ -322,8 +315,10 @@ fn note_on(
 /// Whether a variable that a statement assigns has an equation behind it, which the change would double.
 fn is_doubled(fault: &Fault<'_>, statement: &Statement, names: &[&str]) -> bool {
     for place in statement.end..fault.tokens.len() {
-        let is_left = is_any(fault.text(place.saturating_sub(1)), &[";", "let", "then", "{", "else"])
-            && is_any(fault.text(place.saturating_add(1)), &["=", ":", "+", "-"]);
+        let is_left = is_any(
+            fault.text(place.saturating_sub(1)),
+            &[";", "let", "then", "{", "else"],
+        ) && is_any(fault.text(place.saturating_add(1)), &["=", ":", "+", "-"]);
         if is_left && is_any(fault.text(place), names) {
             return true;
         }
