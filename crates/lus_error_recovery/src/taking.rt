@@ -212,7 +212,8 @@ impl<'s> Rest<'s> {
         declaration.take(alloc, (0, all))
     }
 
-    /// Makes a change that mends a fault of grammar in the tokens of its declaration, if they are read further then: on which line it did.
+    /// Makes a change that mends a fault of grammar in the tokens of its declaration, if it begins in it and they are read further then: on which
+    /// line it did.
     fn mend(
         &mut self,
         alloc: Global,
@@ -222,6 +223,9 @@ impl<'s> Rest<'s> {
         let Some(declaration) = self.declarations.get_mut(fault.declaration) else {
             return Ok(None);
         };
+        if edit.byte < declaration.start.byte {
+            return Ok(None);
+        }
         let line = declaration.line_before(edit.byte);
         let Some(found) = declaration.changed(alloc, self.source, edit, fault.line, fault.column)?
         else {
