@@ -26,13 +26,13 @@ fn sampled_by<'t>(on: Context<'t>, name: &Name) -> Option<&'t Expr> {
 }
 
 /// How the last value of a variable is held, and that of one instant before is used.
-fn push_held(
+fn push_held<'t>(
     alloc: Global,
-    on: Context<'_>,
+    on: Context<'t>,
     note: &mut String,
-    tick: Tick<'_>,
-    expr: &Expr,
-    name: &str,
+    tick: Tick<'t>,
+    expr: &'t Expr,
+    name: &'t str,
 ) -> Result<(), AllocError> {
     let (Some(value), Some(of)) = (
         value_of_its_type(on.clocks, expr),
@@ -59,10 +59,10 @@ fn push_held(
 }
 
 /// What is said of an equation that uses what is there by the value that it defines; nothing of other equations.
-pub fn advice_on_own_clock(
+pub fn advice_on_own_clock<'t>(
     alloc: Global,
-    on: Context<'_>,
-    found: Misplaced<'_>,
+    on: Context<'t>,
+    found: Misplaced<'t>,
 ) -> Result<Option<Advice>, AllocError> {
     let (Some(tick), Some(name)) = (found.has.newest, name_of(found.expr)) else {
         return Ok(None);
