@@ -138,7 +138,10 @@ fn member_at(
 ) -> Result<Option<usize>, AllocError> {
     let mut found = None;
     let mut next = behind_mark(text, object, b'{');
-    while let Some(at) = next {
+    for _member in 0..text.len() {
+        let Some(at) = next else {
+            return Ok(found);
+        };
         let end = past_value(text, at);
         let Some(value) = behind_mark(text, end, b':') else {
             return Ok(found);

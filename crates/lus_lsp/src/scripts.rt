@@ -38,11 +38,7 @@ fn error_of(
 }
 
 /// What there is to say of accepted scripts.
-fn noted(
-    alloc: Global,
-    program: &Program,
-    scripts: &Scripts,
-) -> Result<ScriptDiagnosis, AllocError>
+fn noted(alloc: Global, program: &Program, scripts: &Scripts) -> Result<ScriptDiagnosis, AllocError>
     ensures { IfOk result (λ d. (p : programs.Program) (text : Text) → AreAccepted p text → AreDiagnosedFor p text d) }
 {
     match notes_of(alloc, program, scripts) {

@@ -8,5 +8,5 @@ returns-in-Some-clause-whole g c = exchanged_whole c.say.result _ _ _ c.say.ensu
 pub returns-in-Some-clause-beginning : goal.returns-in-Some-clause-beginning
 returns-in-Some-clause-beginning g c = exchanged c.say.result _ _ _ c.say.ensures.beginning
 
-pub returns-clause-whole : goal.returns-clause-whole
-returns-clause-whole g c = said_nothing (g.O.Sink.written c.args.output.now)
+pub returns-in-None-clause-whole : goal.returns-in-None-clause-whole
+returns-in-None-clause-whole g c = said_nothing (g.O.Sink.written c.args.output.now)

@@ -14,6 +14,6 @@ returns-in-Some g c =
 pub returns-in-None : goal.returns-in-None
 returns-in-None g c =
     let is = sym (ap (option_map (λ p. string_bytes p.now.text)) c.in-None.is) in
-    subst (λ (o : Option Text). IfOk c.diagnose_scripts.result (λ d.
+    subst (λ (o : Option Text). IfOk c.diagnose_scripts-in-None.result (λ d.
     AreDiagnosed g.C.Compiler.accepts g.C.Compiler.refuses g.C.Compiler.accepts_scripts g.C.Compiler.refuses_scripts c.args.scripts.now o d))
-    is c.diagnose_scripts.ensures
+    is c.diagnose_scripts-in-None.ensures
