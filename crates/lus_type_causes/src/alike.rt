@@ -55,9 +55,10 @@ pub fn alike_edit(
     expr: &Expr,
     misfit: Misfit<'_>,
 ) -> Result<Option<Edit>, AllocError> {
-    let (Expr::Binary(Infix::Compute(op), left, _), Some(equation)) =
-        (expr, given.equation_with(expr))
-    else {
+    let (Expr::Binary(Infix::Compute(op), left, _), Some(equation)) = (
+        expr,
+        given.equation_with(expr),
+    ) else {
         return Ok(None);
     };
     let Some((subject, sign)) = last_comparison(left, op.sign()) else {

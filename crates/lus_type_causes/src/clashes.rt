@@ -136,12 +136,7 @@ fn field<'t>(
 
 /// What is said of a condition that a sum or a product has as an operand, with numbers in the place of all of its equation; or of one behind
 /// a minus.
-fn counted_up<'t>(
-    given: Given<'t>,
-    said: Said<'t>,
-    expr: &'t Expr,
-    operand: &'t Expr,
-) -> Said<'t> {
+fn counted_up<'t>(given: Given<'t>, said: Said<'t>, expr: &'t Expr, operand: &'t Expr) -> Said<'t> {
     match (expr, given.equation_with(expr)) {
         (Expr::Binary(Infix::Compute(_), _, _), Some(equation)) => Said {
             repair: Some(Repair::Numbers(&equation.right, operand)),

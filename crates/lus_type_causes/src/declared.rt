@@ -95,7 +95,8 @@ fn numbered(expr: &Expr) -> Option<&Expr> {
 /// Whether a value tells its type by itself: by its operator, or as a constructor or a number that stands for no other value.
 fn tells(given: Given<'_>, misfit: Misfit<'_>) -> bool {
     match (misfit.wanted, misfit.found, misfit.expr) {
-        (Kind::Int, Kind::Bool, Expr::Truth(_, _) | Expr::Binary(_, _, _) | Expr::Unary(_, _, _)) => true,
+        (Kind::Int, Kind::Bool, Expr::Truth(_, _) | Expr::Binary(_, _, _) | Expr::Unary(_, _, _)) =>
+            true,
         (Kind::Bool, Kind::Int, Expr::Number(number, _)) => *number > 1,
         (Kind::Bool, Kind::Int, Expr::Binary(_, _, _) | Expr::Unary(_, _, _)) => true,
         (Kind::Int, Kind::Enum(_), _) => true,
@@ -109,7 +110,11 @@ fn tells(given: Given<'_>, misfit: Misfit<'_>) -> bool {
 fn offer_of(given: Given<'_>, misfit: Misfit<'_>) -> Result<Offer, AllocError> {
     let values = values_of(given, misfit)?;
     let is_told = values.iter().any(|value| tells(given, *value));
-    Ok(if is_told { Offer::Preferred } else { Offer::Told })
+    Ok(if is_told {
+        Offer::Preferred
+    } else {
+        Offer::Told
+    })
 }
 
 /// The number of another variable on the left with which that of a number can be exchanged: each is of the type of the other's output.
@@ -130,12 +135,7 @@ fn exchanged(node: &Node, called: &Node, left: &[Name], number: usize) -> Option
 }
 
 /// What is said of a variable that takes an output of another type: perhaps it is exchanged with another one.
-fn taking<'t>(
-    given: Given<'t>,
-    said: Said<'t>,
-    equation: &'t Equation,
-    number: usize,
-) -> Said<'t> {
+fn taking<'t>(given: Given<'t>, said: Said<'t>, equation: &'t Equation, number: usize) -> Said<'t> {
     let (Some(node), Expr::Call(name, _)) = (given.node, &equation.right) else {
         return said;
     };

@@ -91,10 +91,9 @@ impl<'t> Given<'t> {
             },
             None => 0,
         };
-        self.equations().iter().any(|equation| equation
-            .left
-            .iter()
-            .any(|name| name.text.as_str() == text && name.span.start.byte != declared))
+        self.equations().iter().any(|equation| equation.left.iter().any(|name| name.text.as_str()
+            == text
+            && name.span.start.byte != declared))
     }
 
     /// Whether a variable of the node has a type.

@@ -169,7 +169,10 @@ fn of_number(
             })
         }
         _ => {
-            let (yes, no) = (branch_of(given, parts, "true"), branch_of(given, parts, "false"));
+            let (yes, no) = (
+                branch_of(given, parts, "true"),
+                branch_of(given, parts, "false"),
+            );
             let note = format!(in given.alloc;
                 "A `merge` is by a `bool` or an enumeration. Without clocks, `if {text} <> 0 then {yes} else {no}` chooses by a condition on a number."
             )?;
@@ -244,7 +247,10 @@ fn of_another(
     let edit = match lacking(constructors(given.tree, kind), parts) {
         Some(name) => {
             let meant = name.text.as_str();
-            write!(note, " Perhaps `{meant}` is meant, which has no branch yet.")?;
+            write!(
+                note,
+                " Perhaps `{meant}` is meant, which has no branch yet."
+            )?;
             Some(renaming(given, label, meant)?)
         }
         None => None,

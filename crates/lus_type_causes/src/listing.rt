@@ -95,9 +95,7 @@ fn push_locals(
 
 /// Whether a node has an output.
 fn has_output(node: &Node, text: &str) -> bool {
-    node.outputs
-        .iter()
-        .any(|group| group.names.iter().any(|name| name.text.as_str() == text))
+    node.outputs.iter().any(|group| group.names.iter().any(|name| name.text.as_str() == text))
 }
 
 /// The field that is taken of an expression.
@@ -260,8 +258,7 @@ fn push_conditions<'t>(
 ) -> Result<(), AllocError> {
     match expr {
         Expr::Binary(Infix::Compute(op), left, right)
-            if reckons(op.sign()) || matches!(op.sign(), "<" | "<=" | ">" | ">=") =>
-        {
+            if reckons(op.sign()) || matches!(op.sign(), "<" | "<=" | ">" | ">=") => {
             push_operand(given, found, left, told)?;
             push_operand(given, found, right, told)
         }
@@ -292,11 +289,7 @@ fn conditions_in<'t>(
 }
 
 /// The change by which each condition among the operands of sums and products becomes a number.
-pub fn counting(
-    given: Given<'_>,
-    right: &Expr,
-    told: &Expr,
-) -> Result<Option<Edit>, AllocError> {
+pub fn counting(given: Given<'_>, right: &Expr, told: &Expr) -> Result<Option<Edit>, AllocError> {
     let conditions = conditions_in(given, right, told)?;
     let Some(first) = conditions.first() else {
         return Ok(None);

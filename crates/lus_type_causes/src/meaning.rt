@@ -79,10 +79,7 @@ fn push_branches<'t>(
 }
 
 /// The values of which a misfit has one at each instant, in the order of the text.
-pub fn values_of<'t>(
-    given: Given<'t>,
-    misfit: Misfit<'t>,
-) -> Result<Vec<Misfit<'t>>, AllocError> {
+pub fn values_of<'t>(given: Given<'t>, misfit: Misfit<'t>) -> Result<Vec<Misfit<'t>>, AllocError> {
     let mut found = Vec::new(given.alloc);
     push_values(&mut found, misfit, misfit.expr, misfit.is_enclosed)?;
     Ok(found)
@@ -90,20 +87,15 @@ pub fn values_of<'t>(
 
 /// Whether an expression is a name, a field or a call.
 pub fn is_named(expr: &Expr) -> bool {
-    matches!(
-        expr,
-        Expr::Name(_) | Expr::Field(_, _) | Expr::Call(_, _)
-    )
+    matches!(expr, Expr::Name(_) | Expr::Field(_, _) | Expr::Call(_, _))
 }
 
 /// The constructor of a type that an expression is.
 pub fn constructor_of<'t>(given: Given<'t>, expr: &'t Expr, kind: Kind) -> Option<&'t Name> {
     match expr {
-        Expr::Name(name) if !given.is_variable(name.text.as_str())
-            && has_name(constructors(given.tree, kind), name.text.as_str()) =>
-        {
-            Some(name)
-        }
+        Expr::Name(name)
+            if !given.is_variable(name.text.as_str())
+                && has_name(constructors(given.tree, kind), name.text.as_str()) => { Some(name) }
         _ => None,
     }
 }
@@ -293,10 +285,7 @@ fn field(
 }
 
 /// A constructor of one enumeration in the place of one of another that has its place there.
-fn nearest_constructor(
-    given: Given<'_>,
-    misfit: Misfit<'_>,
-) -> Result<Option<String>, AllocError> {
+fn nearest_constructor(given: Given<'_>, misfit: Misfit<'_>) -> Result<Option<String>, AllocError> {
     let Expr::Name(name) = misfit.expr else {
         return Ok(None);
     };

@@ -1,8 +1,8 @@
 //! What is said of values that have another type than is wanted.
 
-use crate::given::Given;
 use crate::alike::{alike_edit, compared_alike};
 use crate::fields::with_field;
+use crate::given::Given;
 use crate::kinds::constructors;
 use crate::labels::with_label;
 use crate::lacking::with_argument;
@@ -53,7 +53,10 @@ pub fn push_constructors(
     note: &mut String,
     kind: Kind,
 ) -> Result<(), AllocError> {
-    push_names(note, &texts_of(given.alloc, constructors(given.tree, kind))?)
+    push_names(
+        note,
+        &texts_of(given.alloc, constructors(given.tree, kind))?,
+    )
 }
 
 /// The note on a number in the place of a condition.
@@ -100,7 +103,10 @@ fn note_on_numbered(
     )?;
     push_constructors(given, &mut note, kind)?;
     if !written.is_empty() {
-        write!(note, ". Perhaps `{written}` is meant, if they are counted from 0.")?;
+        write!(
+            note,
+            ". Perhaps `{written}` is meant, if they are counted from 0."
+        )?;
     } else if has_change {
         note.push_str(". Perhaps those are meant that have these numbers, counted from 0.")?;
     } else {
@@ -118,7 +124,9 @@ fn note_on_decided(
 ) -> Result<String, AllocError> {
     let of = given.name(kind);
     let names = constructors(given.tree, kind);
-    let mut note = format!(in given.alloc; "`{of}` is an enumeration, and no `bool`. Its values are ")?;
+    let mut note = format!(in given.alloc;
+        "`{of}` is an enumeration, and no `bool`. Its values are "
+    )?;
     push_constructors(given, &mut note, kind)?;
     if !written.is_empty() {
         write!(note, ". Perhaps `{written}` is meant.")?;
@@ -145,7 +153,9 @@ fn note_on_decided(
 /// The note on a value of an enumeration in the place of a number.
 fn note_on_counted(given: Given<'_>, kind: Kind, written: &str) -> Result<String, AllocError> {
     let of = given.name(kind);
-    let mut note = format!(in given.alloc; "The values of the enumeration `{of}` have no numbers.")?;
+    let mut note = format!(in given.alloc;
+        "The values of the enumeration `{of}` have no numbers."
+    )?;
     if !written.is_empty() {
         write!(note, " To give each one, write `{written}`.")?;
     }
@@ -160,12 +170,18 @@ fn note_on_tested(
     written: &str,
 ) -> Result<String, AllocError> {
     let of = given.name(kind);
-    let mut note = String::from_str(given.alloc, "A value of an enumeration is not a condition. ")?;
+    let mut note = String::from_str(
+        given.alloc,
+        "A value of an enumeration is not a condition. ",
+    )?;
     if constructor_of(given, expr, kind).is_some() {
         let variables = given.variables_of_kind(kind)?;
         let text = given.text_of(expr);
         if variables.is_empty() {
-            write!(note, "Compare a variable of type `{of}` with it, as in `x = {text}`.")?;
+            write!(
+                note,
+                "Compare a variable of type `{of}` with it, as in `x = {text}`."
+            )?;
             return Ok(note);
         }
         note.push_str("Compare a variable with it: perhaps ")?;
@@ -196,9 +212,13 @@ fn note_on_other(
     let mut note = match constructor_of(given, misfit.expr, misfit.found) {
         Some(name) => {
             let text = name.text.as_str();
-            format!(in given.alloc; "`{text}` is a constructor of `{own}`. Those of `{other}` are ")?
+            format!(in given.alloc;
+                "`{text}` is a constructor of `{own}`. Those of `{other}` are "
+            )?
         }
-        None => format!(in given.alloc; "`{own}` and `{other}` are two types. The constructors of `{other}` are ")?,
+        None => format!(in given.alloc;
+            "`{own}` and `{other}` are two types. The constructors of `{other}` are "
+        )?,
     };
     push_constructors(given, &mut note, misfit.wanted)?;
     note.push('.')?;

@@ -44,7 +44,11 @@ fn test_for(
     let mut made = String::new(given.alloc);
     let others = names.len().saturating_sub(to.saturating_sub(from));
     if others == 1 {
-        let other = if from == 0 { names.last() } else { names.first() };
+        let other = if from == 0 {
+            names.last()
+        } else {
+            names.first()
+        };
         if let Some(other) = other {
             let other = other.text.as_str();
             write!(made, "{text} <> {other}")?;
@@ -103,11 +107,8 @@ fn next_of(given: Given<'_>, text: &str, names: &[Name]) -> Result<String, Alloc
 /// Whether an expression adds one, and what to.
 fn one_added<'t>(expr: &'t Expr) -> Option<&'t Expr> {
     match expr {
-        Expr::Binary(Infix::Compute(op), left, right) if op.sign() == "+"
-            && matches!(**right, Expr::Number(1, _)) =>
-        {
-            Some(left)
-        }
+        Expr::Binary(Infix::Compute(op), left, right)
+            if op.sign() == "+" && matches!(**right, Expr::Number(1, _)) => { Some(left) }
         _ => None,
     }
 }
@@ -145,7 +146,10 @@ pub fn note_on_order(
         if tests.is_empty() {
             note.push_str("Compare them with `=` or `<>`.")?;
         } else {
-            write!(note, "Perhaps `{tests}` is meant, by their order in the declaration of `{of}`.")?;
+            write!(
+                note,
+                "Perhaps `{tests}` is meant, by their order in the declaration of `{of}`."
+            )?;
         }
         return Ok(Some(note));
     }

@@ -29,11 +29,7 @@ pub struct Replacement {
 }
 
 /// The text of the right side of the equation that has some values, with a change in it.
-fn changed(
-    given: Given<'_>,
-    edit: &Edit,
-    values: &[Misfit<'_>],
-) -> Result<String, AllocError> {
+fn changed(given: Given<'_>, edit: &Edit, values: &[Misfit<'_>]) -> Result<String, AllocError> {
     let whole = match values.first() {
         Some(value) => given.equation_with(value.expr),
         None => None,
@@ -56,10 +52,7 @@ fn is_literal(expr: &Expr) -> bool {
 
 /// The values that are written alike with a misfit: where it is a number or a truth value and all of its equation defines a variable of the
 /// wanted type, all such values of that; else its own values.
-fn values_beside<'t>(
-    given: Given<'t>,
-    misfit: Misfit<'t>,
-) -> Result<Vec<Misfit<'t>>, AllocError> {
+fn values_beside<'t>(given: Given<'t>, misfit: Misfit<'t>) -> Result<Vec<Misfit<'t>>, AllocError> {
     let own = values_of(given, misfit)?;
     let Some(equation) = given.equation_with(misfit.expr) else {
         return Ok(own);

@@ -115,4 +115,3 @@ fn merge_span(expr: &Expr) -> Span {
         },
     }
 }
-

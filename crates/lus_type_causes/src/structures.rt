@@ -1,9 +1,7 @@
 //! Structures where other types are wanted, and the other way round.
 
 use crate::given::Given;
-use crate::kinds::{
-    fields, fields_of_kind, has_name, is_kind, part_named, value_of_type,
-};
+use crate::kinds::{fields, fields_of_kind, has_name, is_kind, part_named, value_of_type};
 use crate::meaning::{Misfit, is_named};
 use crate::repair::{names_of, push_names};
 use lus_faults::{bytes_at, extent_of, start_of};
@@ -60,10 +58,9 @@ fn filled(
 
 /// Whether fields of the same names and types are among others.
 fn are_fields_of(given: Given<'_>, groups: &[Fields], others: &[Fields]) -> bool {
-    groups.iter().all(|group| group.names.iter().all(|name| others.iter().any(|other| has_name(
-        &other.names,
-        name.text.as_str(),
-    ))))
+    groups.iter().all(|group| group.names.iter().all(|name| others
+        .iter()
+        .any(|other| has_name(&other.names, name.text.as_str()))))
 }
 
 /// A structure whose fields are those of another one.
@@ -98,9 +95,10 @@ fn count_of(groups: &[Fields]) -> usize {
 /// Whether parts name all fields, and nothing else.
 fn are_all(groups: &[Fields], parts: &[Part]) -> bool {
     count_of(groups) == parts.len()
-        && groups
+        && groups.iter().all(|group| group
+            .names
             .iter()
-            .all(|group| group.names.iter().all(|name| part_named(parts, &name.text).is_some()))
+            .all(|name| part_named(parts, &name.text).is_some()))
 }
 
 /// A structure of the wanted type in the place of one of another.
@@ -197,11 +195,7 @@ pub fn note_on_taken(given: Given<'_>, misfit: Misfit<'_>) -> Result<String, All
 }
 
 /// Appends that all of a structure may be meant in the place of its field.
-fn push_whole(
-    given: Given<'_>,
-    note: &mut String,
-    misfit: Misfit<'_>,
-) -> Result<(), AllocError> {
+fn push_whole(given: Given<'_>, note: &mut String, misfit: Misfit<'_>) -> Result<(), AllocError> {
     if let Expr::Field(owner, _) = misfit.expr
         && let Expr::Name(name) = &**owner
         && given.has_kind(name.text.as_str(), misfit.wanted)
@@ -220,10 +214,17 @@ pub fn note_on_whole(
 ) -> Result<String, AllocError> {
     let (owner, found) = (given.name(misfit.wanted), given.name(misfit.found));
     let mut note = if matches!(misfit.found, Kind::Struct(_)) {
-        format!(in given.alloc; "`{owner}` and `{found}` are two types, also where their fields are alike.")?
+        format!(in given.alloc;
+            "`{owner}` and `{found}` are two types, also where their fields are alike."
+        )?
     } else {
-        let mut note = format!(in given.alloc; "`{owner}` is a structure, and its value gives each field: ")?;
-        push_names(&mut note, &names_of(given.alloc, fields(given.tree, misfit.wanted))?)?;
+        let mut note = format!(in given.alloc;
+            "`{owner}` is a structure, and its value gives each field: "
+        )?;
+        push_names(
+            &mut note,
+            &names_of(given.alloc, fields(given.tree, misfit.wanted))?,
+        )?;
         note.push('.')?;
         note
     };
@@ -289,10 +290,16 @@ pub fn note_on_pair(
     };
     let groups = fields(given.tree, kind);
     let names = fields_of_kind(given.alloc, given.tree, groups, wanted)?;
-    if names.is_empty() || !given.has_kind(one.text.as_str(), kind) || !given.has_kind(other.text.as_str(), kind) {
+    if names.is_empty()
+        || !given.has_kind(one.text.as_str(), kind)
+        || !given.has_kind(other.text.as_str(), kind)
+    {
         return Ok(None);
     }
-    let (operands, sign) = ((one.text.as_str(), other.text.as_str()), sign_in(given, left, right));
+    let (operands, sign) = (
+        (one.text.as_str(), other.text.as_str()),
+        sign_in(given, left, right),
+    );
     let is_all = names.len() == count_of(groups);
     let mut note = format!(in given.alloc; "`{sign}` takes no whole structures: write ")?;
     match defined_of(given, expr, kind) {

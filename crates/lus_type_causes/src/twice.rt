@@ -33,7 +33,11 @@ fn names_in<'t>(given: Given<'t>, kind: Kind) -> Result<Vec<&'t str>, AllocError
 }
 
 /// The only name that no part has.
-fn lacking<'t>(given: Given<'t>, kind: Kind, parts: &[Part]) -> Result<Option<&'t str>, AllocError> {
+fn lacking<'t>(
+    given: Given<'t>,
+    kind: Kind,
+    parts: &[Part],
+) -> Result<Option<&'t str>, AllocError> {
     let mut found = None;
     for name in &names_in(given, kind)? {
         if part_named(parts, name).is_none() {
@@ -47,11 +51,7 @@ fn lacking<'t>(given: Given<'t>, kind: Kind, parts: &[Part]) -> Result<Option<&'
 }
 
 /// Where the parts of a name stand.
-fn places_of(
-    given: Given<'_>,
-    parts: &[Part],
-    text: &str,
-) -> Result<Vec<Span>, AllocError> {
+fn places_of(given: Given<'_>, parts: &[Part], text: &str) -> Result<Vec<Span>, AllocError> {
     let mut places = Vec::new(given.alloc);
     for part in parts {
         if lead_text(part) == text
@@ -83,7 +83,9 @@ pub fn with_twice(
     };
     let meant = lacking(given, kind, parts)?;
     let (Some(meant), [_, second]) = (meant, places.as_slice()) else {
-        let note = format!(in given.alloc; "{rule}, in any order: leave out all but one of these.")?;
+        let note = format!(in given.alloc;
+            "{rule}, in any order: leave out all but one of these."
+        )?;
         return finding.with_note(given.alloc, note.as_str());
     };
     let note = format!(in given.alloc;
